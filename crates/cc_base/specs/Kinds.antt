@@ -1,0 +1,94 @@
+-- The number and the name of each kind of refusal.
+use Rattle.std.specs.Prelude.{ℕ, List, codes}
+use Rattle.cc_base.specs.declared.kind.Kind.{Kind}
+use Rattle.cc_base.specs.declared.kind.Kind.TheVariants as kind
+
+abbrev pub kind_number : Kind → ℕ
+kind_number kind.BadByte = 1
+kind_number kind.BadLiteral = 2
+kind_number kind.UnclosedComment = 3
+kind_number kind.UnclosedText = 4
+kind_number kind.NumberTooWide = 5
+kind_number kind.Directive = 6
+kind_number kind.SourceTooLong = 7
+kind_number kind.NotYet = 9
+kind_number kind.Syntax = 10
+kind_number kind.TooDeep = 11
+kind_number kind.OutsideProfile = 12
+kind_number kind.NativePointer = 13
+kind_number kind.FloatType = 14
+kind_number kind.MixedMode = 15
+kind_number kind.Duplicate = 20
+kind_number kind.UnknownName = 21
+kind_number kind.NotAType = 22
+kind_number kind.CyclicBase = 23
+kind_number kind.SealedBase = 24
+kind_number kind.ReservedMember = 25
+kind_number kind.BadMain = 26
+kind_number kind.WrongArguments = 30
+kind_number kind.TemplateDepth = 31
+kind_number kind.TooManyNodes = 32
+kind_number kind.NothingToOverride = 40
+kind_number kind.SealedFunction = 41
+kind_number kind.SlotTwice = 42
+kind_number kind.MissingImplementation = 43
+kind_number kind.WrongResult = 44
+kind_number kind.NoConversion = 50
+kind_number kind.NoOverload = 51
+kind_number kind.AmbiguousCall = 52
+kind_number kind.NotAssignable = 53
+kind_number kind.NotAccessible = 54
+kind_number kind.BadBreak = 55
+kind_number kind.MissingReturn = 56
+kind_number kind.NotForStack = 57
+kind_number kind.AbstractNew = 58
+kind_number kind.BadCatch = 59
+kind_number kind.ConstraintUnmet = 60
+kind_number kind.BadFormat = 61
+kind_number kind.TooManyArguments = 62
+kind_number kind.UnknownMember = 63
+
+abbrev pub kind_name : Kind → List ℕ
+kind_name kind.BadByte = codes "BadByte"
+kind_name kind.BadLiteral = codes "BadLiteral"
+kind_name kind.UnclosedComment = codes "UnclosedComment"
+kind_name kind.UnclosedText = codes "UnclosedText"
+kind_name kind.NumberTooWide = codes "NumberTooWide"
+kind_name kind.Directive = codes "Directive"
+kind_name kind.SourceTooLong = codes "SourceTooLong"
+kind_name kind.NotYet = codes "NotYet"
+kind_name kind.Syntax = codes "Syntax"
+kind_name kind.TooDeep = codes "TooDeep"
+kind_name kind.OutsideProfile = codes "OutsideProfile"
+kind_name kind.NativePointer = codes "NativePointer"
+kind_name kind.FloatType = codes "FloatType"
+kind_name kind.MixedMode = codes "MixedMode"
+kind_name kind.Duplicate = codes "Duplicate"
+kind_name kind.UnknownName = codes "UnknownName"
+kind_name kind.NotAType = codes "NotAType"
+kind_name kind.CyclicBase = codes "CyclicBase"
+kind_name kind.SealedBase = codes "SealedBase"
+kind_name kind.ReservedMember = codes "ReservedMember"
+kind_name kind.BadMain = codes "BadMain"
+kind_name kind.WrongArguments = codes "WrongArguments"
+kind_name kind.TemplateDepth = codes "TemplateDepth"
+kind_name kind.TooManyNodes = codes "TooManyNodes"
+kind_name kind.NothingToOverride = codes "NothingToOverride"
+kind_name kind.SealedFunction = codes "SealedFunction"
+kind_name kind.SlotTwice = codes "SlotTwice"
+kind_name kind.MissingImplementation = codes "MissingImplementation"
+kind_name kind.WrongResult = codes "WrongResult"
+kind_name kind.NoConversion = codes "NoConversion"
+kind_name kind.NoOverload = codes "NoOverload"
+kind_name kind.AmbiguousCall = codes "AmbiguousCall"
+kind_name kind.NotAssignable = codes "NotAssignable"
+kind_name kind.NotAccessible = codes "NotAccessible"
+kind_name kind.BadBreak = codes "BadBreak"
+kind_name kind.MissingReturn = codes "MissingReturn"
+kind_name kind.NotForStack = codes "NotForStack"
+kind_name kind.AbstractNew = codes "AbstractNew"
+kind_name kind.BadCatch = codes "BadCatch"
+kind_name kind.ConstraintUnmet = codes "ConstraintUnmet"
+kind_name kind.BadFormat = codes "BadFormat"
+kind_name kind.TooManyArguments = codes "TooManyArguments"
+kind_name kind.UnknownMember = codes "UnknownMember"

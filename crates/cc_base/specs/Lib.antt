@@ -1,0 +1,4 @@
+pub mod Host
+pub mod Kinds
+pub mod Memory
+pub mod Outside
