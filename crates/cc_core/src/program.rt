@@ -1,0 +1,29 @@
+// The typed program of the straight form: lines that are printed, and the result of `main`.
+use cc_base::List;
+
+/// A binary operator on two `int` (ECMA-372, 15; C++, 5.6 and 5.7). Results wrap.
+#[derive(Clone, Copy, Debug, PartialEq, Eq)]
+pub enum Operator {
+    Add,
+    Subtract,
+    Multiply,
+}
+
+/// One step of a straight program. Operands come before their operator, as they are evaluated.
+#[derive(Clone, Copy, Debug, PartialEq, Eq)]
+pub enum Operation {
+    /// The value of a literal.
+    Number(i32),
+    /// The operator's result on the two values made last.
+    Apply(Operator),
+    /// Prints the value made last as a line.
+    WriteLine,
+    /// Ends `main` with the value made last.
+    Return,
+}
+
+/// A straight program: its operations in order of evaluation.
+#[derive(Debug, Drop)]
+pub struct Program {
+    pub operations: List<Operation>,
+}
