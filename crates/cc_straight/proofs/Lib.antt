@@ -1,0 +1,6 @@
+pub mod Bounds
+pub mod Complete
+pub mod Lines
+pub mod Sound
+pub mod Sums
+pub mod Turned

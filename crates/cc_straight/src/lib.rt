@@ -1,0 +1,9 @@
+//! The straight form of a program: reading it, compiling it to a method body, and executing that.
+#![tactic(auto)]
+
+mod levels;
+mod lexeme;
+mod read;
+mod sum;
+
+pub use lexeme::Lexeme;
