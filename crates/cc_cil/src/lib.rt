@@ -1,0 +1,14 @@
+//! The instructions of the CLI that the compiler uses, and method bodies, as bytes and out of bytes.
+#![tactic(auto)]
+
+mod decode;
+mod encode;
+mod fault;
+mod instruction;
+mod laws;
+
+pub use decode::decode_one;
+pub use encode::encode_one;
+pub use fault::CodeFault;
+pub use instruction::{Instruction, Operand};
+pub use laws::one_spelling;
