@@ -8,6 +8,8 @@ mod list;
 mod memory;
 mod outside;
 mod running;
+#[cfg(test)]
+mod tests;
 mod text;
 mod write;
 
