@@ -1,3 +1,4 @@
+pub mod Cells
 pub mod Host
 pub mod Kinds
 pub mod Memory

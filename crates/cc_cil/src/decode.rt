@@ -310,6 +310,7 @@ fn split_operand(blank: Instruction, bytes: &[u8]) -> Option<(Instruction, &[u8]
 pub fn decode_one(code: &[u8], at: u32) -> Result<(Instruction, u32), CodeFault>
     requires long { length code.now < 2 ^ 32 }
     ensures found { IfOk result (λ r. (rest : List ℕ) × (drop at code.now ≡ spelling r.0 ++ rest) × (r.1 ≡ at + length (spelling r.0))) }
+    ensures in_range { IfOk result (λ r. IsInRange (operand r.0)) }
     ensures spelled { (i : Instruction) (rest : List ℕ) → IsInRange (operand i) → drop at code.now ≡ spelling i ++ rest → result ≡ Ok (i, at + length (spelling i)) }
     ensures short { (n : ℕ) → result ≡ Err (CodeFault.Short n) → (n ≡ length code.now) × IsFront (drop at code.now) }
     ensures unknown { (n : ℕ) → result ≡ Err (CodeFault.UnknownOpcode n) → (n ≡ at) × BeginsNone (drop at code.now) }

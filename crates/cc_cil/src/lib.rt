@@ -1,12 +1,16 @@
 //! The instructions of the CLI that the compiler uses, and method bodies, as bytes and out of bytes.
 #![tactic(auto)]
 
+mod action;
+mod body;
 mod decode;
 mod encode;
 mod fault;
 mod instruction;
 mod laws;
 
+pub use action::{Action, WRITE_LINE};
+pub use body::{Body, Clause, ClauseKind};
 pub use decode::decode_one;
 pub use encode::encode_one;
 pub use fault::CodeFault;

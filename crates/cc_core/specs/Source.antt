@@ -1,13 +1,13 @@
 -- A straight source as a tree: the terms that it prints, each as a line, and the term that `main` returns.
-use Rattle.std.specs.Prelude.{ℤ, List, [], ◌∷◌, ◌++◌}
+use Rattle.std.specs.Prelude.{ℕ, List, [], ◌∷◌, ◌++◌}
 use Rattle.std.specs.List.{flat_map}
 use Rattle.cc_core.specs.declared.program.Operator.{Operator}
 use Rattle.cc_core.specs.declared.program.Operation.{Operation}
 use Rattle.cc_core.specs.declared.program.Operation.TheVariants as operation
 
--- A term over int.
+-- A term over int; a number is its 32 bits.
 pub data Term : Type 0 where
-  number : ℤ → Term
+  number : ℕ → Term
   apply : Operator → Term → Term → Term
 
 pub record Source : Type 0 where

@@ -12,8 +12,8 @@ pub enum Operator {
 /// One step of a straight program. Operands come before their operator, as they are evaluated.
 #[derive(Clone, Copy, Debug, PartialEq, Eq)]
 pub enum Operation {
-    /// The value of a literal.
-    Number(i32),
+    /// The value of a literal, as its 32 bits.
+    Number(u32),
     /// The operator's result on the two values made last.
     Apply(Operator),
     /// Prints the value made last as a line.

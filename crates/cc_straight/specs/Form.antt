@@ -1,5 +1,5 @@
 -- The grammar of the straight form, over its lexemes: each relation says which lexemes spell a part, and what follows them.
-use Rattle.std.specs.Prelude.{◌≡◌, ℕ, zero, suc, ℤ, List, [], ◌∷◌, ◌++◌, Bool, true, false, Option, Some, None}
+use Rattle.std.specs.Prelude.{◌≡◌, ℕ, zero, suc, List, [], ◌∷◌, ◌++◌, Bool, true, false, Option, Some, None}
 use Rattle.cc_core.specs.declared.program.Operator.TheVariants.{Add, Subtract, Multiply}
 use Rattle.cc_core.specs.declared.program.Operation.{Operation}
 use Rattle.cc_core.specs.declared.program.Program.{Program}
@@ -20,7 +20,7 @@ mutual
     multiply : {k : ℕ} {l r : Term} {ts us rest : List Lexeme} → Product k l ts (lexeme.Times ∷ us) → Factor k r us rest → Product k (apply Multiply l r) ts rest
 
   pub data Factor : ℕ → Term → List Lexeme → List Lexeme → Type 0 where
-    literal : {k : ℕ} {n : ℤ} {rest : List Lexeme} → Factor k (number n) (lexeme.Number n ∷ rest) rest
+    literal : {k : ℕ} {n : ℕ} {rest : List Lexeme} → Factor k (number n) (lexeme.Number n ∷ rest) rest
     group : {k : ℕ} {t : Term} {ts rest : List Lexeme} → Sum k t ts (lexeme.Close ∷ rest) → Factor (suc k) t (lexeme.Open ∷ ts) rest
 
 -- System :: Console :: WriteLine (

@@ -1,5 +1,5 @@
 -- The tokens of the straight form, told apart: words by their spelling, signs by their number, numbers by their value.
-use Rattle.std.specs.Prelude.{◌==◌, ℕ, ℤ, pos, List, codes, nat_lt, if◌then◌else◌}
+use Rattle.std.specs.Prelude.{◌==◌, ℕ, List, codes, nat_lt, if◌then◌else◌}
 use Rattle.std.specs.Str.{bytes_eq}
 use Rattle.cc_tree.specs.declared.token.Token.{Token}
 use Rattle.cc_tree.specs.declared.token.TokenKind.{TokenKind}
@@ -41,8 +41,8 @@ sign_lexeme sign =
 
 -- a decimal number without suffix, or the octal number 0 that a lone `0` is, of the values of int
 abbrev pub small_lexeme : ℕ → Suffix → Radix → Lexeme
-small_lexeme value Plain Decimal = lexeme.Number (pos value)
-small_lexeme value Plain Octal = if value == 0 then lexeme.Number (pos 0) else lexeme.Other
+small_lexeme value Plain Decimal = lexeme.Number value
+small_lexeme value Plain Octal = if value == 0 then lexeme.Number 0 else lexeme.Other
 small_lexeme value suffix radix = lexeme.Other
 
 abbrev pub number_lexeme : ℕ → Suffix → Radix → Lexeme

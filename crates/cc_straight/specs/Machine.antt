@@ -1,5 +1,5 @@
 -- How a sum is read from left to right with a stack: the operators that wait for their right operand, at each open parenthesis.
-use Rattle.std.specs.Prelude.{◌≡◌, ℕ, ℤ, Bool, true, false, List, [], ◌∷◌, ◌++◌, length, Option, Some, None, nat_lt, if◌then◌else◌}
+use Rattle.std.specs.Prelude.{◌≡◌, ℕ, Bool, true, false, List, [], ◌∷◌, ◌++◌, length, Option, Some, None, nat_lt, if◌then◌else◌}
 use Rattle.cc_core.specs.declared.program.Operator.{Operator}
 use Rattle.cc_core.specs.declared.program.Operator.TheVariants.{Add, Subtract, Multiply}
 use Rattle.cc_core.specs.declared.program.Operation.{Operation}

@@ -25,7 +25,7 @@ pub enum Lexeme {
     Minus,
     Times,
     /// A decimal number without suffix, at most 2,147,483,647.
-    Number(i32),
+    Number(u32),
     /// Any other token.
     Other,
 }
@@ -82,7 +82,7 @@ fn number_lexeme(value: u64, suffix: Suffix, radix: Radix) -> Lexeme
         return Lexeme::Other;
     }
     match (suffix, radix) {
-        (Suffix::Plain, Radix::Decimal) => Lexeme::Number(value as i32),
+        (Suffix::Plain, Radix::Decimal) => Lexeme::Number(value as u32),
         (Suffix::Plain, Radix::Octal) => {
             if value == 0 {
                 Lexeme::Number(0)

@@ -1,0 +1,14 @@
+-- The cells of the heap that strings and arrays of strings take.
+use Rattle.std.specs.Prelude.{ℕ, ◌+◌, ◌/◌, List, [], ◌∷◌, length}
+
+-- the cells of a string: two, and one for each four units or part of four
+abbrev pub string_cells : List ℕ → ℕ
+string_cells text = 2 + (length text + 3) / 4
+
+abbrev pub strings_cells : List (List ℕ) → ℕ
+strings_cells [] = 0
+strings_cells (text ∷ texts) = string_cells text + strings_cells texts
+
+-- the cells of the array of a program's arguments, two and one for each element, and those of its strings
+abbrev pub arguments_cells : List (List ℕ) → ℕ
+arguments_cells arguments = 2 + length arguments + strings_cells arguments
