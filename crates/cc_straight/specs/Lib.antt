@@ -1,3 +1,4 @@
-pub mod Lexemes
 pub mod Form
+pub mod Lexemes
 pub mod Machine
+pub mod Straight
