@@ -1,0 +1,9 @@
+pub mod Digits
+pub mod Numbers
+pub mod Escapes
+pub mod Quotes
+pub mod Gaps
+pub mod Directives
+pub mod Signs
+pub mod Pieces
+pub mod Spelling
