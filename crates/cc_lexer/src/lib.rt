@@ -12,6 +12,8 @@ mod numbers;
 mod pieces;
 mod quotes;
 mod signs;
+#[cfg(test)]
+mod tests;
 mod tokens;
 
 pub use fault::LexFault;
