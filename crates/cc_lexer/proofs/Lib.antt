@@ -4,3 +4,6 @@ pub mod Decoding
 pub mod PastGaps
 pub mod Lexing
 pub mod OneReading
+pub mod LongestSign
+pub mod ClosedBody
+pub mod CommentEnd

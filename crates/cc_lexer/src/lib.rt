@@ -17,5 +17,5 @@ mod tests;
 mod tokens;
 
 pub use fault::LexFault;
-pub use laws::one_reading;
+pub use laws::{closing_quote, comment_end, longest_sign, one_reading};
 pub use tokens::lex;
