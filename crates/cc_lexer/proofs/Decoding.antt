@@ -6,7 +6,8 @@ use Rattle.cc_base.specs.declared.kind.Kind.TheVariants as kind
 use Rattle.cc_tree.specs.declared.piece.Element.{Element}
 use Rattle.cc_tree.specs.declared.piece.Element.TheVariants.{One, Pair, BadByte, BadEscape}
 use Rattle.cc_tree.specs.Escapes.{element}
-use Rattle.cc_tree.specs.Quotes.{Units, Decodes, ends, unit, pair, bad_byte, bad_escape, with_front, span}
+use Rattle.cc_tree.specs.Quotes.{Units, Decodes, ends, unit, pair, bad_byte, bad_escape, with_front}
+use Rattle.cc_tree.specs.Refusals.{span}
 
 abbrev pub GoesOn : (body units : List ℕ) (at : ℕ) (rest : List ℕ) → Type 0
 GoesOn body units at rest = (more : Units) → Decodes at rest more → Decodes 0 body (with_front units more)

@@ -1,14 +1,13 @@
 -- The tokens that are read so far, completed by what the rest gives, are a reading of the whole source.
 use Rattle.std.proofs.Common.{◌≡◌, ℕ, ◌+◌, ◌<◌, ◌≤◌, Bool, true, false, List, [], ◌∷◌, ◌++◌, length, drop, inr, Option, Some, None, Ok, Err, refl, sym, subst, ap, arith}
 use Rattle.std.proofs.lemmas.List.{append_assoc, append-nil}
-use Rattle.cc_base.specs.declared.kind.Kind.{Kind}
 use Rattle.cc_base.specs.declared.text.Span.{Span}
 use Rattle.cc_tree.specs.declared.piece.Piece.{Piece}
 use Rattle.cc_tree.specs.declared.piece.Piece.TheVariants as pieces
 use Rattle.cc_tree.specs.declared.token.Token.{Token}
 use Rattle.cc_tree.specs.declared.token.TokenKind.{TokenKind}
 use Rattle.cc_tree.specs.Pieces.{piece}
-use Rattle.cc_tree.specs.Quotes.{span}
+use Rattle.cc_tree.specs.Refusals.{span, Refusal}
 use Rattle.cc_tree.specs.Spelling.{Reading, Spells, ends, gap, token, refused, with_first, Makes, start_of, Spelled}
 use Rattle.cc_lexer.specs.Faults.{Refuses, refusal_moved, refusal}
 use Rattle.cc_lexer.specs.declared.fault.LexFault.{LexFault}
@@ -46,7 +45,7 @@ token_read source tokens tokens' line_start at n kind place q rest rest' goes so
     rw (et, er, ep) (λ more d. subst (λ x. Reads source x) (with_tokens-with_first tokens _ more)
     (goes _ (token kind n some (subst (λ x. Makes x rest (Ok (kind, n))) eq made) d)))
 
-refused_read : (source : List ℕ) (tokens : List Token) (line_start : Bool) (at : ℕ) (rest : List ℕ) (r s : Option (Kind × Span)) (q : Piece)
+refused_read : (source : List ℕ) (tokens : List Token) (line_start : Bool) (at : ℕ) (rest : List ℕ) (r s : Option Refusal) (q : Piece)
     → GoesOn source tokens line_start at rest → 0 < length rest → q ≡ piece rest line_start → Refuses r (Makes q rest) → s ≡ refusal_moved at r
     → length source ≤ 1048576 → Refuses s (Spelled source)
 refused_read source tokens line_start at rest None s q goes some eq made es short = rw es tt

@@ -1,21 +1,14 @@
 -- A source has one reading.
 use Rattle.std.proofs.Common.{◌≡◌, ℕ, ◌+◌, ◌<◌, Bool, true, false, List, length, drop, inl, inr, Option, Some, None, Result, Ok, Err, refl, sym, subst, ap, ◌∙◌, arith}
-use Rattle.cc_base.specs.declared.kind.Kind.{Kind}
-use Rattle.cc_base.specs.declared.text.Span.{Span}
 use Rattle.cc_tree.specs.declared.piece.Piece.{Piece}
 use Rattle.cc_tree.specs.declared.piece.Piece.TheVariants as pieces
 use Rattle.cc_tree.specs.declared.token.Token.{Token}
-use Rattle.cc_tree.specs.declared.token.TokenKind.{TokenKind}
 use Rattle.cc_tree.specs.Pieces.{piece}
-use Rattle.cc_tree.specs.Quotes.{span}
-use Rattle.cc_tree.specs.Spelling.{Reading, Spells, ends, gap, token, refused, with_first, Makes, moved, body, literal, character, start_of, Spelled}
+use Rattle.cc_tree.specs.Refusals.{Refusal, moved}
+use Rattle.cc_tree.specs.Spelling.{Reading, Spells, ends, gap, token, refused, with_first, Made, Makes, token_at, body, literal, character, start_of, Spelled}
 use Rattle.cc_lexer.specs.Faults.{Refuses, Answers, refusal}
 use Rattle.cc_lexer.specs.declared.fault.LexFault.{LexFault}
 use Rattle.cc_lexer.proofs.Decoding.{decodes_once}
-
--- what a piece spells
-abbrev Made : Type 0
-Made = Result (TokenKind × ℕ) (Kind × Span)
 
 makes_once : (q : Piece) (bytes : List ℕ) (a b : Made) → Makes q bytes a → Makes q bytes b → a ≡ b
 makes_once (pieces.Gap n next) bytes a b g h = absurd g
@@ -28,7 +21,7 @@ makes_once (pieces.Refused why place) bytes a b g h = g ∙ sym h
 
 abbrev GoesOn : Made → (at : ℕ) → List ℕ → Reading → Type 0
 GoesOn (Ok made) at bytes reading =
-    (more : Reading) × Spells false (at + made.1) (drop made.1 bytes) more × (reading ≡ with_first (record { kind = made.0; span = span at (at + made.1) }) more)
+    (more : Reading) × Spells false (at + made.1) (drop made.1 bytes) more × (reading ≡ with_first (token_at at made.1 made.0) more)
 GoesOn (Err refusal) at bytes reading = reading ≡ Err (moved at refusal)
 
 -- what the first piece says of a reading
@@ -73,7 +66,7 @@ spells_once line_start at bytes a b (gap {next} {n} s e d) q =
     spells_once next (at + n) (drop n bytes) a b d (subst (λ x. Says x at bytes b) e (says line_start at bytes b s q))
 spells_once line_start at bytes a b (token kind n s m d) q =
     let said = says_made (piece bytes line_start) (Ok (kind, n)) at bytes b m (says line_start at bytes b s q) in
-    ap (with_first (record { kind = kind; span = span at (at + n) })) (spells_once false (at + n) (drop n bytes) _ said.0 d said.1) ∙ sym said.2
+    ap (with_first (token_at at n kind)) (spells_once false (at + n) (drop n bytes) _ said.0 d said.1) ∙ sym said.2
 spells_once line_start at bytes a b (refused r s m) q = sym (says_made (piece bytes line_start) (Err r) at bytes b m (says line_start at bytes b s q))
 
 pub spelled_once : (source : List ℕ) (a b : Reading) → Spelled source a → Spelled source b → a ≡ b
@@ -82,7 +75,7 @@ spelled_once source a b (inl (l, e)) (inr (s, d)) = absurd (omega (arith, l, s))
 spelled_once source a b (inr (s, d)) (inl (l, e)) = absurd (omega (arith, l, s))
 spelled_once source a b (inr (s, d)) (inr (s', d')) = spells_once true (start_of source) (drop (start_of source) source) a b d d'
 
-refused_once : (source : List ℕ) (r : Option (Kind × Span)) (reading : Reading) → Refuses r (Spelled source) → Spelled source reading → Refuses r (λ answer. answer ≡ reading)
+refused_once : (source : List ℕ) (r : Option Refusal) (reading : Reading) → Refuses r (Spelled source) → Spelled source reading → Refuses r (λ answer. answer ≡ reading)
 refused_once source None reading h d = tt
 refused_once source (Some r) reading h d = spelled_once source (Err r) reading h d
 

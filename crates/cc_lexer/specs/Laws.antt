@@ -18,15 +18,20 @@ IsSignOfAtLeast least piece = (number len : ℕ) × (piece ≡ Sign number len) 
 
 -- no sign that begins the bytes is longer than the one that is taken
 abbrev pub TakesLongestSign : Type 0
-TakesLongestSign = (bytes spelling : List ℕ) → Contains signs spelling → starts_with nat_eq bytes spelling ≡ true → IsSignOfAtLeast (length spelling) (sign bytes)
+TakesLongestSign =
+    (bytes spelling : List ℕ) → Contains signs spelling → starts_with nat_eq bytes spelling ≡ true
+    → IsSignOfAtLeast (length spelling) (sign bytes)
 
 -- what is taken is the sign of the table with this number
 abbrev pub TakesSign : Type 0
-TakesSign = (bytes : List ℕ) (number len : ℕ) → sign bytes ≡ Sign number len → slice_get signs number ≡ Some (take len bytes)
+TakesSign =
+    (bytes : List ℕ) (number len : ℕ) → sign bytes ≡ Sign number len → slice_get signs number ≡ Some (take len bytes)
 
 -- a body without a bare quote is closed by the quote behind it
 abbrev pub ClosesBody : Type 0
-ClosesBody = (quote : ℕ) (body rest : List ℕ) → is_quote quote ≡ true → Body quote body → closing quote false 0 (body ++ quote ∷ rest) ≡ Some (length body)
+ClosesBody =
+    (quote : ℕ) (body rest : List ℕ) → is_quote quote ≡ true → Body quote body
+    → closing quote false 0 (body ++ quote ∷ rest) ≡ Some (length body)
 
 -- what is closed is a body without a bare quote, and then the quote
 pub record IsClosedAt (quote : ℕ) (bytes : List ℕ) (at : ℕ) : Type 0 where
@@ -34,7 +39,8 @@ pub record IsClosedAt (quote : ℕ) (bytes : List ℕ) (at : ℕ) : Type 0 where
   pub closer : slice_get bytes at ≡ Some quote
 
 abbrev pub ClosedBody : Type 0
-ClosedBody = (quote : ℕ) (bytes : List ℕ) (at : ℕ) → closing quote false 0 bytes ≡ Some at → IsClosedAt quote bytes at
+ClosedBody =
+    (quote : ℕ) (bytes : List ℕ) (at : ℕ) → closing quote false 0 bytes ≡ Some at → IsClosedAt quote bytes at
 
 -- the comment's end is behind the first `*/`
 pub record IsFirstEnd (bytes : List ℕ) (end : ℕ) : Type 0 where
@@ -46,4 +52,6 @@ EndsComment = (bytes : List ℕ) (end : ℕ) → comment_end 0 bytes ≡ Some en
 
 -- a comment without an end has no `*/`
 abbrev pub LeavesComment : Type 0
-LeavesComment = (bytes : List ℕ) → comment_end 0 bytes ≡ None → (k : ℕ) → starts_with nat_eq (drop k bytes) (codes "*/") ≡ false
+LeavesComment =
+    (bytes : List ℕ) → comment_end 0 bytes ≡ None
+    → (k : ℕ) → starts_with nat_eq (drop k bytes) (codes "*/") ≡ false

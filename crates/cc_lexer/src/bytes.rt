@@ -2,7 +2,7 @@
 ghost use Rattle.std.specs.Prelude.{◌≡◌, ◌+◌, ◌≤◌, ◌<◌, ◌^◌, length, min, take, drop, slice_index, nat_eq, IsTrue};
 ghost use Rattle.std.specs.List.{starts_with};
 ghost use Rattle.cc_tree.specs.Digits.{is_word_byte};
-ghost use Rattle.cc_tree.specs.Quotes as spec;
+ghost use Rattle.cc_tree.specs.Refusals as spec;
 
 use cc_base::Span;
 

@@ -2,7 +2,7 @@
 ghost use Rattle.std.specs.Prelude.{◌≡◌, ◌+◌, ◌≤◌, ◌<◌, ◌^◌, Some};
 ghost use Rattle.cc_lexer.specs.Faults as spec;
 ghost use Rattle.cc_lexer.specs.declared.fault.LexFault.TheVariants.{Memory};
-ghost use Rattle.cc_tree.specs.Quotes.{span};
+ghost use Rattle.cc_tree.specs.Refusals.{span};
 
 use cc_base::{Kind, Span};
 use std::alloc::{AllocError, AllocFailed};

@@ -2,7 +2,7 @@
 ghost use Rattle.std.specs.Prelude.{◌≡◌, ◌==◌, ◌&&◌, ◌≤◌, ◌<◌, ◌^◌, true, length, slice_index, take, IsTrue};
 ghost use Rattle.std.specs.List.{prefix_len};
 ghost use Rattle.std.specs.Str.{byte};
-ghost use Rattle.cc_tree.specs.Digits as digits_spec;
+ghost use Rattle.cc_tree.specs.Digits.{is_word_byte};
 ghost use Rattle.cc_tree.specs.Gaps.{is_on_line};
 ghost use Rattle.cc_tree.specs.Pieces as spec;
 ghost use Rattle.cc_tree.specs.Signs.{sign_number};
@@ -27,9 +27,9 @@ fn refused(kind: Kind, past: usize) -> Piece
 }
 
 fn word_len(bytes: &[u8]) -> usize
-    ensures value { result ≡ prefix_len digits_spec.is_word_byte bytes.now }
+    ensures value { result ≡ prefix_len is_word_byte bytes.now }
     ensures within { result ≤ length bytes.now }
-    ensures moves { 0 < length bytes.now → digits_spec.is_word_byte (slice_index bytes.now 0) ≡ true → 0 < result }
+    ensures moves { 0 < length bytes.now → is_word_byte (slice_index bytes.now 0) ≡ true → 0 < result }
 {
     let mut end = 0;
     'bytes: while end < bytes.len() && is_word_byte(bytes[end]) {

@@ -3,7 +3,7 @@ ghost use Rattle.std.specs.Prelude.{◌≡◌, ◌+◌, ◌<◌, ◌≤◌, ◌^
 ghost use Rattle.cc_tree.specs.declared.piece.Piece.TheVariants as pieces;
 ghost use Rattle.cc_tree.specs.Spelling as spec;
 ghost use Rattle.cc_lexer.specs.declared.fault.LexFault.TheVariants.{Memory};
-ghost use Rattle.cc_lexer.specs.Faults.{refusal, Answers, IsPlaceWithin};
+ghost use Rattle.cc_lexer.specs.Faults.{refusal, Answers, AnswersOnly, IsPlaceWithin};
 ghost use Rattle.cc_lexer.specs.Lengths.{IsPieceWithin, IsToken};
 
 use crate::bytes::{begins, past, span};
@@ -137,13 +137,13 @@ fn tokens_of(alloc: Global, source: &[u8]) -> Result<List<Token>, LexFault>
 }
 
 /// The tokens of a source, in order, each with its span; a byte order mark at the start is skipped (ECMA-372, clause 9).
-/// It reads the source once, from its start on. Without memory it answers `Memory`; each other fault comes exactly where
-/// the source is refused so, and `SourceTooLong` before the others.
+/// The source is read once, from its start on. `Memory` comes where none is left; each other fault comes exactly where the
+/// source is refused so, `SourceTooLong` before the others and else the first place.
 pub fn lex(alloc: Global, text: &[u8]) -> Result<List<Token>, LexFault>
     // The tokens spell the text, or it is refused with the fault's kind and place.
     ensures lexed { Answers result (spec.Spelled text.now) }
-    // Whatever the text spells or is refused for is the answer.
-    ensures only { (reading : spec.Reading) → spec.Spelled text.now reading → Answers result (λ answer. answer ≡ reading) }
+    // Whatever tokens the text spells, or refusal it has, is the answer.
+    ensures only { AnswersOnly result (spec.Spelled text.now) }
 {
     tokens_of(alloc, text)
 }

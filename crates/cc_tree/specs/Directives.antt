@@ -1,4 +1,4 @@
--- Directive lines: the two that are skipped (ISO/IEC 14882:2003, clause 16; `#using` is ECMA-372's, 9.2).
+-- Directive lines (ISO/IEC 14882:2003, clause 16): the two that are skipped.
 use Rattle.std.specs.Prelude.{ℕ, ◌-◌, Bool, not, ◌&&◌, ◌||◌, ◌==◌, nat_eq, if◌then◌else◌, List, length, drop, slice_index, codes, Option, Some, None}
 use Rattle.std.specs.List.{starts_with}
 use Rattle.cc_tree.specs.Digits.{is_word_byte}

@@ -27,7 +27,8 @@ gap_len bytes = if nat_lt 0 (length bytes) && is_blank (slice_index bytes 0) the
 -- behind at most so many blanks and comments
 abbrev pub past_some_gaps : (most : ℕ) → List ℕ → List ℕ
 past_some_gaps zero bytes = bytes
-past_some_gaps (suc most) bytes = if nat_lt 0 (gap_len bytes) then past_some_gaps most (drop (gap_len bytes) bytes) else bytes
+past_some_gaps (suc most) bytes =
+    if nat_lt 0 (gap_len bytes) then past_some_gaps most (drop (gap_len bytes) bytes) else bytes
 
 -- behind the blanks and comments at the front
 abbrev pub past_gaps : List ℕ → List ℕ

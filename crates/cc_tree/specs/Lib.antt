@@ -1,6 +1,7 @@
 pub mod Digits
 pub mod Numbers
 pub mod Escapes
+pub mod Refusals
 pub mod Quotes
 pub mod Gaps
 pub mod Directives

@@ -33,15 +33,21 @@ valued radix suffix (Some value) = if is_too_wide radix suffix value then TooWid
 -- `count` digits stand at the front, and then the suffix, if there is one
 abbrev pub suffixed : Radix → (base : ℕ) → List ℕ → (count : ℕ) → Option Suffix → Numeral
 suffixed radix base bytes count None = Malformed
-suffixed radix base bytes count (Some suffix) = if count == 0 then Malformed else valued radix suffix (number base (take count bytes))
+suffixed radix base bytes count (Some suffix) =
+    if count == 0 then Malformed else valued radix suffix (number base (take count bytes))
 
 -- digits, as many as there are, then a suffix
 unfoldable pub written : Radix → (base : ℕ) → List ℕ → Numeral
-written radix base bytes = let count = digit_count base (length bytes) bytes in suffixed radix base bytes count (suffix (drop count bytes))
+written radix base bytes =
+    let count = digit_count base (length bytes) bytes in
+    suffixed radix base bytes count (suffix (drop count bytes))
 
 -- `0x` and hexadecimal digits, `0` and octal digits, or decimal digits
 unfoldable pub numeral : List ℕ → Numeral
 numeral bytes =
     if slice_index bytes 0 == byte "0"
-    then (if eq_ignore_ascii_case (slice_index bytes 1) (byte "x") then written Hexadecimal 16 (drop 2 bytes) else written Octal 8 bytes)
+    then (
+    if eq_ignore_ascii_case (slice_index bytes 1) (byte "x") then written Hexadecimal 16 (drop 2 bytes)
+    else written Octal 8 bytes
+    )
     else written Decimal 10 bytes

@@ -12,7 +12,8 @@ use Rattle.cc_tree.specs.declared.piece.Piece.{Piece}
 use Rattle.cc_tree.specs.declared.piece.Piece.TheVariants.{Gap, Word, Number, Sign, Literal, Character, Refused}
 use Rattle.cc_tree.specs.Digits.{is_word_byte}
 use Rattle.cc_tree.specs.Numbers.{numeral}
-use Rattle.cc_tree.specs.Quotes.{span, closing}
+use Rattle.cc_tree.specs.Quotes.{closing}
+use Rattle.cc_tree.specs.Refusals.{span}
 use Rattle.cc_tree.specs.Gaps.{is_on_line, is_blank, comment_len}
 use Rattle.cc_tree.specs.Directives.{read_len}
 use Rattle.cc_tree.specs.Signs.{sign_number}
@@ -60,8 +61,8 @@ block_comment bytes line_start =
 abbrev pub is_quote : ℕ → Bool
 is_quote b = b == byte "\"" || b == byte "'"
 
--- A string or a character whose opening quote stands at `start`: at 0, or at 1 behind the word `L`. Where it is not closed
--- the quote is refused, and the `L` before it is a word.
+-- A string or a character whose opening quote stands at `start`: at 0, or at 1 behind the letter `L`. Where it is not
+-- closed the quote is refused, and an `L` before it is a word.
 abbrev pub quoted_piece : List ℕ → (start : ℕ) → (length : Option ℕ) → Piece
 quoted_piece bytes start None = if start == 0 then refused kind.UnclosedText 1 else Word 1
 quoted_piece bytes start (Some n) =
