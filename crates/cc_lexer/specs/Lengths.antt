@@ -23,6 +23,7 @@ IsPieceWithin len (Literal start end) = (start < end) × (end < len)
 IsPieceWithin len (Character start end) = (start < end) × (end < len)
 IsPieceWithin len (Refused why place) = IsLexical why × (place.first ≤ len) × (place.past ≤ len)
 
+-- the piece spells a token or is refused
 abbrev pub IsToken : Piece → Type 0
 IsToken (Gap n line_start) = ⊥
 IsToken other = Unit {0}

@@ -56,7 +56,7 @@ impl LexFault {
         }
     }
 
-    /// The fault of a kind that a source is refused for before its tokens are read further.
+    /// The fault with this kind and place. The kind is one for which a piece is refused.
     pub(crate) fn of(kind: Kind, place: Span) -> LexFault
         requires { spec.IsLexical kind }
         ensures { spec.refusal result ≡ Some (kind, place) }
