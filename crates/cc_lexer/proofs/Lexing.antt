@@ -1,5 +1,5 @@
 -- The tokens that are read so far, completed by what the rest gives, are a reading of the whole source.
-use Rattle.std.proofs.Common.{◌≡◌, ℕ, ◌+◌, ◌<◌, ◌≤◌, Bool, true, false, List, [], ◌∷◌, ◌++◌, length, drop, inr, Option, Some, None, Ok, Err, refl, sym, subst, ap, arith}
+use Rattle.std.proofs.Common.{◌≡◌, ℕ, ◌+◌, ◌<◌, ◌≤◌, Bool, true, false, List, [], ◌∷◌, ◌++◌, length, drop, inr, Option, Some, None, Ok, Err, refl, sym, subst, ap, length-append, arith}
 use Rattle.std.proofs.lemmas.List.{append_assoc, append-nil}
 use Rattle.cc_base.specs.declared.text.Span.{Span}
 use Rattle.cc_tree.specs.declared.piece.Piece.{Piece}
@@ -61,3 +61,7 @@ pub ended : (source : List ℕ) (tokens : List Token) (line_start : Bool) (at : 
     → length source ≤ 1048576 → Spelled source (Ok tokens)
 ended source tokens line_start at [] goes none short = inr (short, subst (λ x. Reads source (Ok x)) (append-nil tokens) (goes _ ends))
 ended source tokens line_start at (b ∷ rest) goes none short = absurd (omega (arith, none))
+
+-- a token more, of at least a byte
+pub count_more : (tokens tokens' : List Token) (token : Token) (at n : ℕ) → length tokens ≤ at → tokens' ≡ tokens ++ token ∷ [] → 0 < n → length tokens' ≤ at + n
+count_more tokens more new at n h e some = rw e (rw length-append (omega (arith, h, some)))

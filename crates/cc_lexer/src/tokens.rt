@@ -102,7 +102,8 @@ fn start_of(source: &[u8]) -> usize
 
 /// The tokens of a source, or why it has none.
 fn tokens_of(alloc: Global, source: &[u8]) -> Result<List<Token>, LexFault>
-    ensures { Answers result (spec.Spelled source.now) }
+    ensures spelled { Answers result (spec.Spelled source.now) }
+    ensures count { IfOk result (λ tokens. length tokens ≤ length source.now) }
 {
     if source.len() > MOST_BYTES {
         return Err(LexFault::SourceTooLong(span(MOST_BYTES, MOST_BYTES + 1)));
@@ -144,6 +145,8 @@ pub fn lex(alloc: Global, text: &[u8]) -> Result<List<Token>, LexFault>
     ensures lexed { Answers result (spec.Spelled text.now) }
     // Whatever tokens the text spells, or refusal it has, is the answer.
     ensures only { AnswersOnly result (spec.Spelled text.now) }
+    // Each token has a byte of its own.
+    ensures count { IfOk result (λ tokens. length tokens ≤ length text.now) }
 {
     tokens_of(alloc, text)
 }

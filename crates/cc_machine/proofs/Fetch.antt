@@ -9,7 +9,7 @@ use Rattle.cc_cil.specs.declared.action.Action.TheVariants.{Return}
 use Rattle.cc_cil.specs.Instructions.{spelling}
 use Rattle.cc_cil.specs.Steps.{Stands, Checks, action_of, height_at, height_behind, is_return, ends, goes, wrong, unread}
 use Rattle.cc_machine.specs.Machine.{IsFetched}
-use Rattle.cc_machine.proofs.Laws.{stands_one, none_some, some_is}
+use Rattle.cc_machine.proofs.OneWay.{stands_one, none_some, some_is}
 
 -- some instruction stands where no offset is wrong
 pub some_stands : {code : List ℕ} {most at height : ℕ} → Checks code most at height None → (i : Instruction) × Stands code at i

@@ -1,5 +1,6 @@
 pub mod Fetch
-pub mod Laws
+pub mod OneWay
+pub mod OneAnswer
 pub mod Perform
 pub mod Steps
 pub mod Turned

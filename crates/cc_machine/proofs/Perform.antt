@@ -9,7 +9,7 @@ use Rattle.cc_cil.specs.declared.action.Action.{Action}
 use Rattle.cc_cil.specs.declared.action.Action.TheVariants.{Push, Add, Subtract, Multiply, WriteLine, Return}
 use Rattle.cc_cil.specs.Steps.{State, Running, Ended, Does, height_behind, pushes, adds, subtracts, multiplies, writes, returns}
 use Rattle.cc_machine.specs.Machine.{line_of}
-use Rattle.cc_machine.proofs.Laws.{none_some, some_is}
+use Rattle.cc_machine.proofs.OneWay.{none_some, some_is}
 
 pub does_push : (action : Action) (n : ℕ) (next : ℕ) (old new : List ℕ) (out : List ℕ) → action ≡ Push n → new ≡ n ∷ old → Does action next old out (Running next new out)
 does_push action n next old new out a e = rw (a, e) pushes

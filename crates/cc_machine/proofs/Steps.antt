@@ -10,7 +10,7 @@ use Rattle.cc_cil.specs.Steps.{State, Running, Ended, Stands, Does, Step, Runs, 
 use Rattle.cc_machine.specs.declared.machine.Phase.{Phase}
 use Rattle.cc_machine.specs.declared.machine.Phase.TheVariants as phase
 use Rattle.cc_machine.specs.Machine.{IsFetched, state_in}
-use Rattle.cc_machine.proofs.Laws.{none_some, some_is}
+use Rattle.cc_machine.proofs.OneWay.{none_some, some_is}
 
 abbrev if_some : Bool → ℕ → Option ℕ
 if_some b n = if b then Some n else None

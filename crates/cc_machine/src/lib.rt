@@ -2,8 +2,10 @@
 #![tactic(auto)]
 
 mod checked;
+mod laws;
 mod machine;
 mod stack;
 
 pub use checked::{CheckFault, CheckRefusal, Checked};
+pub use laws::{one_answer, one_step};
 pub use machine::{Execution, Machine, Phase, Stop};

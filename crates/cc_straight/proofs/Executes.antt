@@ -77,7 +77,7 @@ module _ (code : List ℕ) (most : ℕ) where
       let first : Step code (Running (length before) s o) (Running (length before + length (spelling i)) s1 o1) = does i (action_for op) (here before rest i is e acts.1) acts.0 (d (length before + length (spelling i))) in
       let later = path_runs p is (before ++ spelling i) rest acts.2 (shifted before rest i is e) in
       steps (subst (λ n. Step code (Running (length before) s o) (Running n s1 o1)) (sym (length-append before (spelling i))) first)
-        (subst (λ b. Runs code (length os) (Running (length (before ++ spelling i)) s1 o1) (Running (length b) s' o')) (append_assoc before (spelling i) (flat_map spelling is)) later)
+      (subst (λ b. Runs code (length os) (Running (length (before ++ spelling i)) s1 o1) (Running (length b) s' o')) (append_assoc before (spelling i) (flat_map spelling is)) later)
 
   pub path_checks : {os : List Operation} {s o s' o' : List ℕ} → Path most os s o s' o' → (is : List Instruction) (before rest : List ℕ) → Acts is os → code ≡ before ++ (flat_map spelling is ++ rest)
       → Checks code most (length (before ++ flat_map spelling is)) (length s') None → Checks code most (length before) (length s) None
@@ -87,8 +87,8 @@ module _ (code : List ℕ) (most : ℕ) where
   path_checks {os = op ∷ os} {s = s} {o = o} {s' = s'} {o' = o'} (next {stack' = s1} {out' = o1} d h p) (i ∷ is) before rest acts e c =
       let later = path_checks p is (before ++ spelling i) rest acts.2 (shifted before rest i is e) (subst (λ b. Checks code most (length b) (length s') None) (sym (append_assoc before (spelling i) (flat_map spelling is))) c) in
       code_words.goes i (here before rest i is e acts.1) (rw acts.0 (rises most (d 0) h))
-        (rw acts.0 (ap (λ b. b && (length before + length (spelling i) == length code)) (no_return (d 0) tt)))
-        (subst (λ n. Checks code most n (length s1) None) (length-append before (spelling i)) later)
+      (rw acts.0 (ap (λ b. b && (length before + length (spelling i) == length code)) (no_return (d 0) tt)))
+      (subst (λ n. Checks code most n (length s1) None) (length-append before (spelling i)) later)
 
 -- the instructions of two lists of operations, one behind the other
 pub acts_split : (a b : List Operation) (is : List Instruction) → Acts is (a ++ b) → (first : List Instruction) × (second : List Instruction) × (is ≡ first ++ second) × Acts first a × Acts second b
@@ -118,7 +118,7 @@ module _ (code : List ℕ) (most : ℕ) (first : List Instruction) (last : Instr
   checks_to_end =
       let size : length (flat_map spelling first) + length (spelling last) ≡ length code = sym (ap length text ∙ length-append (flat_map spelling first) (spelling last)) in
       path_checks code most path first [] (spelling last) acts text
-        (code_words.ends last last_stands (rw is_return_here refl) (rw is_return_here refl) size)
+      (code_words.ends last last_stands (rw is_return_here refl) (rw is_return_here refl) size)
 
 -- what the instructions of a whole source are: those before its return, and that
 pub record Layout (code : List ℕ) (os : List Operation) : Type 0 where
@@ -167,7 +167,8 @@ acts_more (j ∷ is) [] i o h a r = absurd h
 acts_more (j ∷ is) (p ∷ os) i o h a r = (h.0, h.1, acts_more is os i o h.2 a r)
 
 pub code_more : (code code' : List ℕ) (os os' : List Operation) (i : Instruction) (o : Operation) → IsCodeOf code os → code' ≡ code ++ spelling i → os' ≡ os ++ o ∷ [] → action_of i ≡ Some (action_for o) → IsInRange (operand i) → IsCodeOf code' os'
-code_more code code' os os' i o h e f a r =
-    (h.0 ++ i ∷ [],
-      e ∙ ap (λ x. x ++ spelling i) h.1 ∙ ap (λ x. flat_map spelling h.0 ++ x) (sym (append-nil (spelling i))) ∙ sym (flat_map-append spelling h.0 (i ∷ [])),
-      rw f (acts_more h.0 os i o h.2 a r))
+code_more code code' os os' i o h e f a r = (
+  h.0 ++ i ∷ [],
+  e ∙ ap (λ x. x ++ spelling i) h.1 ∙ ap (λ x. flat_map spelling h.0 ++ x) (sym (append-nil (spelling i))) ∙ sym (flat_map-append spelling h.0 (i ∷ [])),
+  rw f (acts_more h.0 os i o h.2 a r),
+)

@@ -1,8 +1,12 @@
 pub mod Bounds
+pub mod Compiled
 pub mod Complete
+pub mod Ending
 pub mod Executes
+pub mod Laws
 pub mod Lines
 pub mod Paths
+pub mod Refused
 pub mod Sound
 pub mod Sums
 pub mod Turned

@@ -42,4 +42,4 @@ pub lines_path : {most : ℕ} (lines : List Term) (out : List ℕ) → AllByRecu
 lines_path {most} [] out h = subst (λ o. Path most [] [] out [] o) (sym (append-nil out)) ends
 lines_path {most} (t ∷ lines) out h =
     subst (λ o. Path most (flat_map line_operations (t ∷ lines)) [] out [] o) (append_assoc out (line_of (value_of t)) (flat_map (λ t. line_of (value_of t)) lines))
-      (path_append (line_path t out h.0) (lines_path lines (out ++ line_of (value_of t)) h.1))
+    (path_append (line_path t out h.0) (lines_path lines (out ++ line_of (value_of t)) h.1))

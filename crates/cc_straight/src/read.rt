@@ -3,7 +3,7 @@ ghost use Rattle.std.specs.Prelude as std_words;
 ghost use Rattle.std.specs.Prelude.{◌≡◌, [], ◌++◌, IfOk, MatchOption, option_map, IsTrue, IsFalse};
 ghost use Rattle.cc_straight.specs.Form.{IsSum, Stops, AreStatements, IsProgram, line_front};
 
-use crate::Lexeme;
+use crate::lexeme::Lexeme;
 use crate::sum::read_sum;
 use cc_base::List;
 use cc_core::{Operation, Program};

@@ -2,8 +2,8 @@
 ghost use Rattle.std.specs.Prelude.{◌≡◌, ◌∷◌, ◌++◌, ℕ, List, Some, false, IsTrue, IsFalse, option_map, IfOk, OnOk};
 ghost use Rattle.cc_straight.specs.Machine.{step, start, IsTaken, IsRead, EndsSum, Done, pending, multiplied};
 
-use crate::Lexeme;
 use crate::levels::{Level, Levels};
+use crate::lexeme::Lexeme;
 use cc_core::{Operation, Operator};
 use std::alloc::{AllocError, Global};
 

@@ -2,7 +2,7 @@ use Rattle.std.proofs.Common.{rules, ◌≡◌, ◌+◌, ℕ, List, subst, sym, 
 use Rattle.std.specs.Prelude.{Some, None}
 use Rattle.cc_cil.specs.Instructions.{spelling}
 use Rattle.cc_cil.specs.Steps.{Stands, Checks, height_at, action_of, unread, wrong}
-use Rattle.cc_machine.proofs.Laws.{stands_within, spelling_some, end_none, last_here, on_from_here}
+use Rattle.cc_machine.proofs.OneWay.{stands_within, spelling_some, end_none, last_here, on_from_here}
 use Rattle.cc_machine.proofs.checked.first_wrong.Goals as goal
 
 pub returns-in_default : goal.returns-in_default
