@@ -3,7 +3,7 @@ use Rattle.std.specs.Prelude.{ℕ, ◌+◌, ◌-◌, ◌*◌, ◌%◌, ◌^◌, 
 use Rattle.std.specs.List.{flat_map}
 use Rattle.std.specs.Fmt.{signed_decimal}
 use Rattle.std.specs.Int.{w32, cast_signed}
-use Rattle.cc_base.specs.Cells.{arguments_cells}
+use Rattle.cc_base.specs.Cells.{arguments_pass}
 use Rattle.cc_base.specs.declared.running.Limits.{Limits}
 use Rattle.cc_base.specs.declared.running.Ending.{Ending}
 use Rattle.cc_base.specs.declared.running.Ending.TheVariants.{Returned, HeapLimit, DepthLimit}
@@ -34,7 +34,7 @@ pub record Ran : Type 0 where
 -- Where a run ends before `main` begins: the arguments are made first, then the entry and `main` take a frame each.
 abbrev pub begins_under : Limits → List (List ℕ) → Ran → Ran
 begins_under limits arguments ran =
-    if nat_lt limits.cells (arguments_cells arguments) then record { output = []; ending = HeapLimit }
+    if arguments_pass limits.cells arguments then record { output = []; ending = HeapLimit }
     else if nat_lt limits.frames 2 then record { output = []; ending = DepthLimit }
     else ran
 

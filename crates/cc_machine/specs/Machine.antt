@@ -2,7 +2,7 @@
 use Rattle.std.specs.Prelude.{◌^◌, ◌≡◌, ◌≢◌, ◌≤◌, ◌<◌, ◌+◌, ◌⊎◌, ℕ, Option, Some, None, List, [], ◌∷◌, ◌++◌, length, reverse, nat_lt, vec_capacity, if◌then◌else◌}
 use Rattle.std.specs.Fmt.{signed_decimal}
 use Rattle.std.specs.Int.{w32, cast_signed}
-use Rattle.cc_base.specs.Cells.{arguments_cells}
+use Rattle.cc_base.specs.Cells.{arguments_pass}
 use Rattle.cc_base.specs.declared.running.Limits.{Limits}
 use Rattle.cc_base.specs.declared.running.Ending.{Ending}
 use Rattle.cc_base.specs.declared.running.Ending.TheVariants as ending
@@ -36,7 +36,7 @@ state_of e = state_in e.phase e.at (reverse e.stack.items) e.output.items
 -- The state that a run begins in: the arguments take their cells first, then the entry and the method a frame each.
 abbrev pub begun : Limits → List (List ℕ) → State
 begun limits arguments =
-    if nat_lt limits.cells (arguments_cells arguments) then Ended ending.HeapLimit []
+    if arguments_pass limits.cells arguments then Ended ending.HeapLimit []
     else if nat_lt limits.frames 2 then Ended ending.DepthLimit []
     else Running 0 [] []
 

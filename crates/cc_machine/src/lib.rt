@@ -5,6 +5,8 @@ mod checked;
 mod laws;
 mod machine;
 mod stack;
+#[cfg(test)]
+mod tests;
 
 pub use checked::{CheckFault, CheckRefusal, Checked};
 pub use laws::{one_answer, one_step};

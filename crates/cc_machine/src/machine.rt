@@ -1,6 +1,6 @@
 // The machine: it executes checked code one instruction after another.
 ghost use Rattle.std.specs.Prelude.{◌≡◌, ◌≢◌, ◌≤◌, ◌<◌, ◌+◌, ◌^◌, ◌++◌, ◌∷◌, [], ℕ, ℤ, List, reverse, None, length, vec_len, vec_capacity, ◌↔◌, IsTrue, OnOk, OnErr, nat_lt, All, IfOk};
-ghost use Rattle.cc_base.specs.Cells.{arguments_cells};
+ghost use Rattle.cc_base.specs.Cells.{arguments_cells, any_long, arguments_pass};
 ghost use Rattle.cc_cil.specs.Steps.{Does, Step, Checks};
 ghost use Rattle.cc_machine.specs.Machine.{IsFetched, Fits, state_in, state_of, stop_of, line_of};
 
@@ -208,6 +208,27 @@ fn passes(arguments: &[Text], cells: u32) -> bool
     total > most
 }
 
+// An argument is longer than a string can be.
+fn any_long(arguments: &[Text]) -> bool
+    ensures { result ≡ any_long arguments.now }
+{
+    for text in arguments {
+        if text.len() > 2_147_483_647 {
+            return true;
+        }
+    }
+    false
+}
+
+// There is no room for the arguments.
+fn arguments_pass(arguments: &[Text], cells: u32) -> bool
+    requires count { length arguments.now < 2 ^ 32 }
+    requires texts { All (λ text. length text < 2 ^ 32) arguments.now }
+    ensures { result ≡ arguments_pass cells arguments.now }
+{
+    any_long(arguments) || passes(arguments, cells)
+}
+
 /// A machine: checked code, and where its run stands.
 #[derive(Drop)]
 pub struct Machine {
@@ -242,7 +263,7 @@ impl Machine {
         requires texts { All (λ text. length text < 2 ^ 32) arguments.now }
         ensures { IfOk result (λ machine. Begins code arguments.now limits machine) }
     {
-        let phase = if passes(arguments, limits.cells) {
+        let phase = if arguments_pass(arguments, limits.cells) {
             Phase::HeapLimit
         } else if limits.frames < 2 {
             Phase::DepthLimit

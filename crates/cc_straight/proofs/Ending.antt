@@ -3,7 +3,7 @@ use Rattle.std.proofs.Common.{◌≡◌, ◌≤◌, ◌<◌, ◌^◌, ℕ, zero,
 use Rattle.std.specs.Prelude.{Bool, true, false, Option, Some, None, nat_lt, reverse, if◌then◌else◌}
 use Rattle.std.specs.List.{flat_map}
 use Rattle.std.specs.Int.{w32, cast_signed}
-use Rattle.cc_base.specs.Cells.{arguments_cells}
+use Rattle.cc_base.specs.Cells.{arguments_pass}
 use Rattle.cc_base.specs.declared.running.Limits.{Limits}
 use Rattle.cc_base.specs.declared.running.Ending.{Ending}
 use Rattle.cc_base.specs.declared.running.Ending.TheVariants as ending
@@ -76,7 +76,7 @@ running p at stack out e = subst (λ q. IsRunning (state_in q at stack out)) (sy
 module _ (code : Body) (source : Source) (limits : Limits) (count : ℕ) (before after : Execution) (found : Option Ending) (out : List ℕ)
     (begins : Begins code [] limits before) (runs : RunsAs code source) (enough : 2 ^ 21 ≤ count) (printed : out ≡ after.output.items) where
   abbrev hot : Bool
-  hot = nat_lt limits.cells (arguments_cells [])
+  hot = arguments_pass limits.cells []
 
   abbrev deep : Bool
   deep = nat_lt limits.frames 2

@@ -34,9 +34,9 @@ sign_lexeme sign =
     else if sign == 3 then lexeme.Close
     else if sign == 8 then lexeme.Semicolon
     else if sign == 10 then lexeme.Scope
-    else if sign == 23 then lexeme.Plus
-    else if sign == 24 then lexeme.Minus
-    else if sign == 25 then lexeme.Times
+    else if sign == 22 then lexeme.Plus
+    else if sign == 23 then lexeme.Minus
+    else if sign == 24 then lexeme.Times
     else lexeme.Other
 
 -- a decimal number without suffix, or the octal number 0 that a lone `0` is, of the values of int

@@ -68,9 +68,9 @@ fn sign_lexeme(sign: u8) -> Lexeme
         3 => Lexeme::Close,
         8 => Lexeme::Semicolon,
         10 => Lexeme::Scope,
-        23 => Lexeme::Plus,
-        24 => Lexeme::Minus,
-        25 => Lexeme::Times,
+        22 => Lexeme::Plus,
+        23 => Lexeme::Minus,
+        24 => Lexeme::Times,
         _ => Lexeme::Other,
     }
 }
