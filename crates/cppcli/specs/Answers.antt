@@ -1,0 +1,137 @@
+-- What a call of the program answers and writes, and why.
+use Rattle.std.specs.Prelude.{◌≡◌, ◌⊎◌, ◌≤◌, ◌<◌, ◌+◌, ℕ, List, [], length, take, Option, Some, None}
+use Rattle.cc_base.specs.Outside.{FilesState, StreamState, Rose, Holds, HoldsMore, Lacks, Gains, GivesSame}
+use Rattle.cc_base.specs.declared.kind.Kind.{Kind}
+use Rattle.cc_base.specs.declared.text.Span.{Span}
+use Rattle.cc_base.specs.declared.running.Limits.{Limits}
+use Rattle.cc_base.specs.declared.running.Ending.{Ending}
+use Rattle.cc_base.specs.declared.running.Ending.TheVariants as ending
+use Rattle.cc_core.specs.Source.{Source}
+use Rattle.cc_core.specs.Meaning.{Ran, run_of}
+use Rattle.cppcli.specs.Notes.{note_of}
+use Rattle.cc_straight.specs.Reading.{Reads, Refuses}
+use Rattle.cppcli.specs.Words.{CommandLine, command_line}
+use Rattle.cppcli.specs.declared.outcome.Outcome.{Outcome}
+use Rattle.cppcli.specs.declared.words.Command.{Command}
+use Rattle.cppcli.specs.declared.words.Command.TheVariants.{Run}
+use Rattle.cppcli.specs.declared.status.Status.{Status}
+use Rattle.cppcli.specs.declared.status.Status.TheVariants.{Ended, Usage, Absent, ReadFault, WriteFault, TooLong, Refused, Aborted, HeapLimit, DepthLimit, StepLimit, Memory}
+
+-- the longest source, in bytes
+abbrev pub source_limit : ℕ
+source_limit = 1048576
+
+-- what an executed program may use
+abbrev pub program_limits : Limits
+program_limits = record { frames = 4096; cells = 8000000 }
+
+-- this status with its note about a file and its bytes, and nothing for the output
+abbrev pub stopped : Status → List ℕ → List ℕ → Outcome
+stopped status file bytes = record { status = status; output = []; note = note_of status file bytes }
+
+-- the status of a program that has ended, or that was executed for the greatest number of steps
+abbrev pub status_of : Option Ending → Status
+status_of (Some (ending.Returned n)) = Ended n
+status_of (Some (ending.Aborted type message)) = Aborted type message
+status_of (Some ending.HeapLimit) = HeapLimit
+status_of (Some ending.DepthLimit) = DepthLimit
+status_of None = StepLimit
+
+-- the outcome of a program that was executed to its end
+abbrev pub ended : Ran → Outcome
+ended ran = record { status = status_of (Some ran.ending); output = ran.output; note = note_of (status_of (Some ran.ending)) [] [] }
+
+-- The files as the call found them and as it left them, and whether none of their calls could fail.
+pub record FilesRun : Type 1 where
+  pub before : FilesState
+  pub after : FilesState
+  pub quiet : Type 0
+
+-- a load of the name from these files fails, for a cause that the call shows
+abbrev pub IsLoadFault : FilesRun → FilesState → List ℕ → ℕ → Status → Type 0
+IsLoadFault run files name limit Absent = Lacks files name × Rose (run.before.absences name) (run.after.absences name)
+IsLoadFault run files name limit ReadFault = Rose (run.before.load_faults name) (run.after.load_faults name) × (¬ run.quiet)
+IsLoadFault run files name limit TooLong = (front : List ℕ) × HoldsMore files name front × (length front ≡ limit + 1)
+IsLoadFault run files name limit status = ⊥
+
+-- The steps of a command, each with what the command does next. A step gives the outcome, or the command goes on.
+
+-- the name is loaded from these files
+abbrev pub AfterLoad : FilesRun → FilesState → List ℕ → ℕ → Outcome → (List ℕ → Type 0) → Type 0
+AfterLoad run files name limit outcome next =
+    (IsLoadFault run files name limit outcome.status × (outcome ≡ stopped outcome.status name []))
+    ⊎ ((bytes : List ℕ) × Holds files name bytes × (length bytes ≤ limit) × next bytes)
+
+-- the bytes spell a source, and each source that they spell has P
+abbrev pub ForSource : List ℕ → (Source → Type 0) → Type 0
+ForSource bytes P = ((source : Source) × Reads bytes source) × ((source : Source) → Reads bytes source → P source)
+
+-- the bytes of the file are compiled
+abbrev pub AfterCompile : List ℕ → List ℕ → Outcome → (Source → Type 0) → Type 0
+AfterCompile file bytes outcome next =
+    ((kind : Kind) × (span : Span) × Refuses bytes kind span × (outcome ≡ stopped (Refused kind span) file bytes))
+    ⊎ ForSource bytes next
+
+-- The commands, each as its steps.
+abbrev pub IsOutcomeOf : CommandLine → FilesRun → Outcome → Type 0
+IsOutcomeOf line run outcome = by line.command
+  where
+    by : Command → Type 0
+    by Run =
+        AfterLoad run run.before line.file source_limit outcome (λ bytes.
+        AfterCompile line.file bytes outcome (λ source.
+        outcome ≡ ended (run_of source [] program_limits)))
+
+-- what the words ask for; memory may run out in any command
+abbrev pub IsOutcomeFor : Option CommandLine → FilesRun → Outcome → Type 0
+IsOutcomeFor None run outcome = outcome ≡ stopped Usage [] []
+IsOutcomeFor (Some line) run outcome = (outcome ≡ stopped Memory [] []) ⊎ IsOutcomeOf line run outcome
+
+-- no name but those that the command stores gives other bytes now
+abbrev pub KeepsFiles : Option CommandLine → FilesRun → Type 0
+KeepsFiles None run = GivesSame run.before run.after
+KeepsFiles (Some line) run = by line.command
+  where
+    by : Command → Type 0
+    by Run = GivesSame run.before run.after
+
+-- The sinks as the call found them and as it left them, and the numbers of bytes that they were sure to take.
+pub record SinksRun : Type 1 where
+  pub output : StreamState
+  pub output' : StreamState
+  pub output_takes : ℕ → Type 0
+  pub notes : StreamState
+  pub notes' : StreamState
+  pub notes_takes : ℕ → Type 0
+
+-- all was written
+pub record IsWritten (outcome : Outcome) (sinks : SinksRun) (answer : Status) : Type 0 where
+  pub as_due : answer ≡ outcome.status
+  pub output : Gains sinks.output sinks.output' outcome.output
+  pub note : Gains sinks.notes sinks.notes' outcome.note
+
+-- a write of the output failed behind a front of it, and nothing was given to the notes
+pub record IsOutputCut (outcome : Outcome) (sinks : SinksRun) (answer : Status) : Type 0 where
+  pub as_fault : answer ≡ WriteFault
+  pub cause : Rose sinks.output.faults sinks.output'.faults
+  pub short : (room : ℕ) → sinks.output_takes room → room < length outcome.output
+  pub output : (count : ℕ) × (count < length outcome.output) × Gains sinks.output sinks.output' (take count outcome.output)
+  pub note : sinks.notes' ≡ sinks.notes
+
+-- the output was written, and a write of the note failed behind a front of it
+pub record IsNoteCut (outcome : Outcome) (sinks : SinksRun) (answer : Status) : Type 0 where
+  pub as_fault : answer ≡ WriteFault
+  pub cause : Rose sinks.notes.faults sinks.notes'.faults
+  pub short : (room : ℕ) → sinks.notes_takes room → room < length outcome.note
+  pub output : Gains sinks.output sinks.output' outcome.output
+  pub note : (count : ℕ) × (count < length outcome.note) × Gains sinks.notes sinks.notes' (take count outcome.note)
+
+abbrev pub IsDelivered : Outcome → SinksRun → Status → Type 0
+IsDelivered outcome sinks answer = IsWritten outcome sinks answer ⊎ IsOutputCut outcome sinks answer ⊎ IsNoteCut outcome sinks answer
+
+-- The contract of the program: the words have an outcome, and it is written, or a failed write cuts it short.
+pub record IsAnswer (words : List (List ℕ)) (run : FilesRun) (sinks : SinksRun) (answer : Status) : Type 0 where
+  pub outcome : Outcome
+  pub is_outcome : IsOutcomeFor (command_line words) run outcome
+  pub keeps_files : KeepsFiles (command_line words) run
+  pub is_delivered : IsDelivered outcome sinks answer

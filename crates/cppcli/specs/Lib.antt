@@ -1,0 +1,7 @@
+pub mod Answers
+pub mod Complete
+pub mod Exit
+pub mod Notes
+pub mod Rows
+pub mod Stops
+pub mod Words
