@@ -7,3 +7,5 @@ pub mod OneReading
 pub mod LongestSign
 pub mod ClosedBody
 pub mod CommentEnd
+pub mod EachSource
+pub mod EachReading

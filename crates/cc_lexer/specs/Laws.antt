@@ -9,6 +9,10 @@ use Rattle.cc_tree.specs.Quotes.{Body, closing}
 use Rattle.cc_tree.specs.Signs.{signs}
 use Rattle.cc_tree.specs.Spelling.{Reading, Spelled}
 
+-- a source has a reading
+abbrev pub EachRead : Type 0
+EachRead = (source : List ℕ) → (reading : Reading) × Spelled source reading
+
 -- two readings of a source are the same
 abbrev pub OneReading : Type 0
 OneReading = (source : List ℕ) (a b : Reading) → Spelled source a → Spelled source b → a ≡ b

@@ -1,10 +1,11 @@
 // Laws of the definition of spelling, each proved by the function of its name.
 ghost use Rattle.cc_lexer.specs.Laws as spec;
 
-/// A source has at most one list of tokens, and not both tokens and a refusal.
-#[tactic(auto, using(crate::proofs::OneReading::spelled_once))]
+/// Each source has tokens or a refusal, at most one list of tokens, and not both tokens and a refusal.
+#[tactic(auto, using(crate::proofs::OneReading::spelled_once, crate::proofs::EachReading::each_read))]
 pub fn one_reading()
-    ensures { spec.OneReading }
+    ensures some { spec.EachRead }
+    ensures one { spec.OneReading }
 {}
 
 /// No sign that begins some bytes is longer than the one that is taken, and that one is in the table under its number.
