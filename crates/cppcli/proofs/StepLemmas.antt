@@ -1,5 +1,5 @@
 -- What a command comes to, from what its steps gave.
-use Rattle.std.proofs.Common.{◌≡◌, ◌⊎◌, ◌≤◌, inl, inr, ℕ, List, [], length}
+use Rattle.std.proofs.Common.{◌≡◌, ◌≤◌, inr, ℕ, List, [], length}
 use Rattle.std.specs.Prelude.{Result, Ok, Err}
 use Rattle.cc_base.specs.Outside.{Holds}
 use Rattle.cc_cil.specs.declared.body.Body.{Body}
