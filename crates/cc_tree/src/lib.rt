@@ -3,8 +3,33 @@
 
 mod piece;
 mod sign;
+mod class;
+mod expression;
+mod identifier;
+mod member;
+mod statement;
 mod token;
+mod type_name;
+mod unit;
 
 pub use piece::{Element, Numeral, Piece};
 pub use sign::SIGNS;
+pub use class::{
+    AggregateWord, Base, Class, ClassKey, ClassModifier, ClassWord, Enumeration, Enumerator,
+    EnumeratorValue,
+};
+pub use expression::{
+    Arguments, AssignmentOperator, BinaryOperator, CastWord, Expression, PostfixOperator,
+    PrefixOperator, Selector,
+};
+pub use identifier::Identifier;
+pub use member::{
+    AccessWord, Accessor, AccessorWord, Member, MemberInitializer, Modifier, NamedFunction,
+    Overridden, Parameter, Parameters, PropertyName, Storage,
+};
+pub use statement::{
+    Block, Catch, Caught, Declarator, ForStart, Initializer, Label, Local, Section, Statement,
+};
 pub use token::{Radix, Suffix, Token, TokenKind};
+pub use type_name::{FundamentalType, TypeArguments, TypeName};
+pub use unit::{Function, Outer, ParameterWord, Template, TemplateParameter, Unit, Visibility};
