@@ -8,3 +8,13 @@ pub mod Directives
 pub mod Signs
 pub mod Pieces
 pub mod Spelling
+pub mod CollectedNames
+pub mod Depth
+pub mod GrammarExpressions
+pub mod GrammarMembers
+pub mod GrammarStatements
+pub mod GrammarTypes
+pub mod GrammarUnit
+pub mod Operators
+pub mod Spans
+pub mod Terminals

@@ -8,9 +8,11 @@ mod expression;
 mod identifier;
 mod member;
 mod statement;
+mod terminal;
 mod token;
 mod type_name;
 mod unit;
+mod word;
 
 pub use piece::{Element, Numeral, Piece};
 pub use sign::SIGNS;
@@ -30,6 +32,8 @@ pub use member::{
 pub use statement::{
     Block, Catch, Caught, Declarator, ForStart, Initializer, Label, Local, Section, Statement,
 };
+pub use terminal::{ContextualWord, NameKind, ReservedWord, Sign, Terminal};
 pub use token::{Radix, Suffix, Token, TokenKind};
 pub use type_name::{FundamentalType, TypeArguments, TypeName};
 pub use unit::{Function, Outer, ParameterWord, Template, TemplateParameter, Unit, Visibility};
+pub use word::{CONTEXTUAL_WORDS, GRAMMAR_SIGNS, LIBRARY_TYPES, OUTSIDE_WORDS, RESERVED_WORDS};
