@@ -1,0 +1,4 @@
+pub mod Choice
+pub mod Same
+pub mod Sizes
+pub mod Table
