@@ -4,6 +4,7 @@ use Rattle.std.proofs.Math.Nat.{pow-suc, pow-succ'}
 use Rattle.std.proofs.lemmas.List.{append-nil}
 use Rattle.byteorder.specs.Endian.{little_from}
 use Rattle.byteorder.specs.Numbers.{little_from-cons}
+use Rattle.std.specs.Prelude.{Result, Ok, Err, OnErr, drop}
 use Rattle.cc_layout.specs.Numbers.{little_endian, value_of, AreBytes, Extends}
 
 pub AreBytes-each : (bytes : List ℕ) → ((i : ℕ) → get_or bytes i 0 < 256) → AreBytes bytes
@@ -13,6 +14,10 @@ AreBytes-each (b ∷ bytes) h = (h 0, AreBytes-each bytes (λ i. h (suc i)))
 pub AreBytes-append : (a b : List ℕ) → AreBytes a → AreBytes b → AreBytes (a ++ b)
 AreBytes-append [] b h k = k
 AreBytes-append (x ∷ a) b h k = (h.0, AreBytes-append a b h.1 k)
+
+pub AreBytes-front : (a b : List ℕ) → AreBytes (a ++ b) → AreBytes a
+AreBytes-front [] b h = tt
+AreBytes-front (x ∷ a) b h = (h.0, AreBytes-front a b h.1)
 
 pub AreBytes-back : (a b : List ℕ) → AreBytes (a ++ b) → AreBytes b
 AreBytes-back [] b h = h
@@ -95,3 +100,17 @@ little_endian-one (suc width) m n x y h k e =
     let k2 : n < 256 ^ width * 256 = rw pow-suc at k in
     let ih = little_endian-one width (m / 256) (n / 256) x y (omega (arith, h2)) (omega (arith, k2)) tail in
     (omega (arith, head, ih.0), ih.1)
+
+pub little_endian-take : (n m x : ℕ) → n ≤ m → take n (little_endian m x) ≡ little_endian n x
+little_endian-take zero m x h = refl
+little_endian-take (suc n) zero x h = absurd (omega arith)
+little_endian-take (suc n) (suc m) x h = ap (λ (t : List ℕ). x % 256 ∷ t) (little_endian-take n m (x / 256) (omega arith))
+
+pub on_err : {T E : Type 0} (result : Result T E) (P : Type 0) → P → OnErr result P
+on_err (Ok value) P p = tt
+on_err (Err error) P p = p
+
+pub AreBytes-drop : (n : ℕ) (bytes : List ℕ) → AreBytes bytes → AreBytes (drop n bytes)
+AreBytes-drop zero bytes h = h
+AreBytes-drop (suc n) [] h = tt
+AreBytes-drop (suc n) (byte ∷ bytes) h = AreBytes-drop n bytes h.1
