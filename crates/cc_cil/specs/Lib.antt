@@ -1,2 +1,4 @@
+pub mod Bodies
+pub mod BodyFaults
 pub mod Instructions
 pub mod Steps

@@ -4,6 +4,8 @@ ghost use Rattle.cc_layout.specs.Numbers.{Extends};
 ghost use Rattle.cc_cil.specs.Instructions.{opcode, operand, opcode_bytes, operand_bytes, spelling};
 
 use crate::instruction::{Instruction, Operand};
+use byteorder::{BigEndian, ByteOrder};
+use cc_layout::write_number;
 use std::alloc::AllocError;
 
 impl Instruction {
@@ -203,7 +205,9 @@ fn write_opcode(opcode: u16, into: &mut Vec<u8>) -> Result<(), AllocError>
     if opcode < 0x100 {
         into.push(opcode as u8)?;
     } else {
-        into.extend_from_slice(&opcode.to_be_bytes())?;
+        let mut bytes = [0; 2];
+        BigEndian::write_u16(&mut bytes, opcode);
+        into.extend_from_slice(&bytes)?;
     }
     Ok(())
 }
@@ -213,15 +217,14 @@ fn write_operand(operand: Operand, into: &mut Vec<u8>) -> Result<(), AllocError>
     ensures err { OnErr result (into.new.items ≡ into.old.items) }
 {
     match operand {
-        Operand::Nothing => {}
-        Operand::U8(n) => into.push(n)?,
-        Operand::I8(n) => into.push(n.cast_unsigned())?,
-        Operand::U16(n) => into.extend_from_slice(&n.to_le_bytes())?,
-        Operand::I32(n) => into.extend_from_slice(&n.to_le_bytes())?,
-        Operand::I64(n) => into.extend_from_slice(&n.to_le_bytes())?,
-        Operand::Token(n) => into.extend_from_slice(&n.to_le_bytes())?,
+        Operand::Nothing => Ok(()),
+        Operand::U8(n) => write_number(1, n as u64, into),
+        Operand::I8(n) => write_number(1, n.cast_unsigned() as u64, into),
+        Operand::U16(n) => write_number(2, n as u64, into),
+        Operand::I32(n) => write_number(4, n.cast_unsigned() as u64, into),
+        Operand::I64(n) => write_number(8, n.cast_unsigned(), into),
+        Operand::Token(n) => write_number(4, n as u64, into),
     }
-    Ok(())
 }
 
 /// Appends the spelling of an instruction: its code, then its operand, the lowest byte first (ECMA-335, III.1.2).

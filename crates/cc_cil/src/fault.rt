@@ -1,4 +1,8 @@
 // Why code is refused.
+ghost use Rattle.std.specs.Prelude.{◌≡◌};
+ghost use Rattle.cc_cil.specs.declared.fault.CodeFault.TheVariants.{Memory};
+
+use std::alloc::AllocError;
 use thiserror::Error;
 
 /// Why bytes are no instruction or no method body, with the first place that shows it.
@@ -19,4 +23,12 @@ pub enum CodeFault {
     /// Memory did not suffice.
     #[error("memory does not suffice")]
     Memory,
+}
+
+impl From<AllocError> for CodeFault {
+    ghost from_gives = { λ _ fault. fault ≡ Memory };
+
+    fn from(_error: AllocError) -> CodeFault {
+        CodeFault::Memory
+    }
 }

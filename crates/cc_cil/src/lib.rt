@@ -8,6 +8,9 @@ mod encode;
 mod fault;
 mod instruction;
 mod laws;
+mod layout;
+mod read;
+mod write;
 
 pub use action::{Action, WRITE_LINE};
 pub use body::{Body, Clause, ClauseKind};
@@ -16,3 +19,5 @@ pub use encode::encode_one;
 pub use fault::CodeFault;
 pub use instruction::{Instruction, Operand};
 pub use laws::one_spelling;
+pub use read::read_body;
+pub use write::write_body;
