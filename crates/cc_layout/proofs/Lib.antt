@@ -1,2 +1,5 @@
+pub mod Codes
+pub mod CompressedForms
 pub mod Laws
 pub mod Numbers
+pub mod Sequences

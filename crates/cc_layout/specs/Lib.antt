@@ -1,2 +1,4 @@
+pub mod Codes
+pub mod Compressed
 pub mod Layout
 pub mod Numbers
