@@ -1,0 +1,6 @@
+pub mod Blobs
+pub mod Elements
+pub mod Heads
+pub mod Lists
+pub mod Types
+pub mod Writing
