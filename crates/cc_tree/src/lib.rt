@@ -1,12 +1,12 @@
 //! The tokens and the trees of a source, with the definitions of how they are spelled.
 #![tactic(auto)]
 
-mod piece;
-mod sign;
 mod class;
 mod expression;
 mod identifier;
 mod member;
+mod piece;
+mod sign;
 mod statement;
 mod terminal;
 mod token;
@@ -14,8 +14,6 @@ mod type_name;
 mod unit;
 mod word;
 
-pub use piece::{Element, Numeral, Piece};
-pub use sign::SIGNS;
 pub use class::{
     AggregateWord, Base, Class, ClassKey, ClassModifier, ClassWord, Enumeration, Enumerator,
     EnumeratorValue,
@@ -29,6 +27,8 @@ pub use member::{
     AccessWord, Accessor, AccessorWord, Member, MemberInitializer, Modifier, NamedFunction,
     Overridden, Parameter, Parameters, PropertyName, Storage,
 };
+pub use piece::{Element, Numeral, Piece};
+pub use sign::SIGNS;
 pub use statement::{
     Block, Catch, Caught, Declarator, ForStart, Initializer, Label, Local, Section, Statement,
 };
