@@ -1,5 +1,5 @@
 // Instructions out of bytes.
-ghost use Rattle.std.specs.Prelude.{◌≡◌, ◌≢◌, ◌<◌, ◌≤◌, ◌^◌, ◌+◌, ◌++◌, ℕ, ℤ, List, [], ◌∷◌, ◌⊎◌, length, drop, IfSome, IfNone, MatchOption, IfOk, Ok, Err};
+ghost use Rattle.std.specs.Prelude.{◌≡◌, ◌≢◌, ◌<◌, ◌≤◌, ◌^◌, ◌+◌, ◌++◌, ℕ, ℤ, List, [], ◌∷◌, ◌⊎◌, length, drop, IfSome, IfNone, MatchOption, IfOk, IfErr, Ok, Err};
 ghost use Rattle.cc_cil.specs.Instructions.{opcode, operand, row, opcode_bytes, operand_bytes, spelling, IsUnlisted, IsInRange, IsFront, BeginsNone};
 ghost use Rattle.cc_cil.specs.declared.instruction.Operand.TheVariants.{U8, I8, U16, I32, I64, Token};
 ghost use Rattle.cc_cil.specs.declared.instruction.Instruction.{Instruction};
@@ -312,6 +312,7 @@ pub fn decode_one(code: &[u8], at: u32) -> Result<(Instruction, u32), CodeFault>
     ensures found { IfOk result (λ r. (rest : List ℕ) × (drop at code.now ≡ spelling r.0 ++ rest) × (r.1 ≡ at + length (spelling r.0))) }
     ensures in_range { IfOk result (λ r. IsInRange (operand r.0)) }
     ensures spelled { (i : Instruction) (rest : List ℕ) → IsInRange (operand i) → drop at code.now ≡ spelling i ++ rest → result ≡ Ok (i, at + length (spelling i)) }
+    ensures kinds { IfErr result (λ f. (f ≡ CodeFault.Short (length code.now)) ⊎ (f ≡ CodeFault.UnknownOpcode at)) }
     ensures short { (n : ℕ) → result ≡ Err (CodeFault.Short n) → (n ≡ length code.now) × IsFront (drop at code.now) }
     ensures unknown { (n : ℕ) → result ≡ Err (CodeFault.UnknownOpcode n) → (n ≡ at) × BeginsNone (drop at code.now) }
 {
