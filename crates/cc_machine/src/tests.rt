@@ -1,17 +1,26 @@
 // Bodies with the offset at which they are first wrong, and one that runs.
-use crate::{CheckFault, Checked, Machine, Stop};
+ghost use Rattle.std.specs.Prelude.{◌<◌, ◌^◌, length};
+
+use crate::{CheckFault, CheckRefusal, Checked, Machine, Stop};
 use cc_base::{Ending, Limits, List};
 use cc_cil::Body;
 use std::alloc::{AllocError, Global};
 use std::test::Fail;
 
-fn body(alloc: Global, max_stack: u16, code: &[u8]) -> Result<Body, AllocError> {
-    Ok(Body {
+fn check(
+    alloc: Global,
+    max_stack: u16,
+    code: &[u8],
+) -> Result<Result<Checked, CheckRefusal>, AllocError>
+    requires { length code.now < 2 ^ 32 }
+{
+    let body = Body {
         max_stack,
         locals: 0,
         code: List::from_slice(alloc, code)?,
         clauses: List::new(alloc),
-    })
+    };
+    Ok(Checked::of(alloc, body))
 }
 
 #[test]
@@ -30,7 +39,8 @@ fn the_first_wrong_offset_is_named(rt: HostRuntime) -> Result<(), Fail> {
         (8, &[0x16, 0x28, 0x02, 0x00, 0x00, 0x0A, 0x16, 0x2A], 1),
     ];
     for (max_stack, code, at) in table {
-        match Checked::of(alloc, body(alloc, max_stack, code)?) {
+        assert!(rt; code.len() < 100);
+        match check(alloc, max_stack, code)? {
             Ok(_) => assert!(rt; false),
             Err(refusal) => assert_eq!(rt; refusal.fault, CheckFault::Bad(at)),
         }
@@ -45,7 +55,7 @@ fn a_body_runs_in_pieces(rt: HostRuntime) -> Result<(), Fail> {
     let code = [
         0x20, 0xFF, 0xFF, 0xFF, 0x7F, 0x17, 0x58, 0x28, 0x01, 0x00, 0x00, 0x0A, 0x1D, 0x2A,
     ];
-    let Ok(checked) = Checked::of(alloc, body(alloc, 2, &code)?) else {
+    let Ok(checked) = check(alloc, 2, &code)? else {
         assert!(rt; false);
         return Ok(());
     };
