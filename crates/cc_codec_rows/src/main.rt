@@ -4,9 +4,12 @@
 ghost use Rattle.std.specs.Prelude.{◌≡◌, ◌<◌, ◌^◌, length, Ok, IfOk, string_bytes};
 ghost use Rattle.hex.specs.Hex.{decode_of, encode_lower};
 ghost use Rattle.cc_layout.specs.Compressed.{compressed};
+ghost use Rattle.cc_cil.specs.Bodies.{body_bytes, HasClass, HasSpelling};
+ghost use Rattle.std.specs.List.{AllByRecursion};
 
 use anyhow::{Result, bail, ensure};
-use cc_cil::{decode_one, encode_one, read_body, write_body};
+use cc_base::List;
+use cc_cil::{Body, Clause, ClauseKind, decode_one, encode_one, read_body, write_body};
 use cc_layout::{split_compressed, write_compressed};
 use cc_module::{read_signature, write_signature};
 use std::alloc::Global;
@@ -44,14 +47,66 @@ fn body(alloc: Global, bytes: &[u8], at: u32) -> Result<String>
         Ok(read) => read,
         Err(fault) => return Ok(format!(in alloc; "{fault:?}")?),
     };
-    let mut written = Vec::new(alloc);
-    write_body(&body, &mut written)?;
+    let digits = written(alloc, &body)?;
     let code = hex::encode(alloc, body.code.as_slice())?;
-    let digits = hex::encode(alloc, &written)?;
     let (stack, locals, clauses) = (body.max_stack, body.locals, body.clauses.as_slice());
     Ok(format!(in alloc;
         "stack {stack} locals {locals} code {code} {clauses:?} to {past} as {digits}"
     )?)
+}
+
+// A clause out of a word such as `catch:0:1:2:3:33554434`: the kind, where the protected code begins and its length, the
+// same of the handler, and the class that is caught.
+fn clause_of(alloc: Global, word: &str) -> Result<Clause>
+    ensures { IfOk result HasClass }
+{
+    let parts: Vec<&str> = word.split(':').collect(alloc)?;
+    let [
+        kind,
+        try_first,
+        try_length,
+        handler_first,
+        handler_length,
+        class,
+    ] = parts.as_slice()
+    else {
+        bail!("no clause");
+    };
+    let (kind, class) = match *kind {
+        "catch" => (ClauseKind::Catch, class.parse()?),
+        "finally" => (ClauseKind::Finally, 0),
+        _ => (ClauseKind::Fault, 0),
+    };
+    Ok(Clause {
+        kind,
+        try_first: try_first.parse()?,
+        try_length: try_length.parse()?,
+        handler_first: handler_first.parse()?,
+        handler_length: handler_length.parse()?,
+        class,
+    })
+}
+
+fn clauses_of(alloc: Global, words: &[&str]) -> Result<List<Clause>>
+    ensures classes { IfOk result (λ clauses. AllByRecursion HasClass clauses) }
+    ensures few { IfOk result (λ clauses. length clauses < 699051) }
+{
+    let mut clauses = List::new(alloc);
+    for word in words {
+        clauses.push(clause_of(alloc, word)?)?;
+    }
+    ensure!(clauses.len() < 699051, "more clauses than a section takes");
+    Ok(clauses)
+}
+
+// The bytes of a body.
+fn written(alloc: Global, body: &Body) -> Result<String>
+    requires { HasSpelling body.now }
+    ensures { IfOk result (λ text. string_bytes text ≡ encode_lower (body_bytes body.now)) }
+{
+    let mut written = Vec::new(alloc);
+    write_body(body, &mut written)?;
+    Ok(hex::encode(alloc, &written)?)
 }
 
 // The signature of a blob, and the bytes that are written for it.
@@ -95,6 +150,15 @@ fn answer(alloc: Global, line: &str) -> Result<String> {
     match words.as_slice() {
         ["instruction", digits, at] => instruction(alloc, &bytes_of(alloc, digits)?, at.parse()?),
         ["body", digits, at] => body(alloc, &bytes_of(alloc, digits)?, at.parse()?),
+        ["write-body", max_stack, locals, code, clauses @ ..] => {
+            let body = Body {
+                max_stack: max_stack.parse()?,
+                locals: locals.parse()?,
+                code: List::from_vec(bytes_of(alloc, code)?),
+                clauses: clauses_of(alloc, clauses)?,
+            };
+            written(alloc, &body)
+        }
         ["signature", digits] => signature(alloc, &bytes_of(alloc, digits)?),
         ["compressed", value] => compressed(alloc, value.parse()?),
         ["number", digits] => number(alloc, &bytes_of(alloc, digits)?),
