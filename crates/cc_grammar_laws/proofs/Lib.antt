@@ -1,0 +1,14 @@
+pub mod Meets
+pub mod CompleteTypes
+pub mod SoundTypes
+pub mod Heads
+pub mod Starts
+pub mod BetweenOperands
+pub mod CompleteExpressions
+pub mod CompleteStatements
+pub mod Uniqueness
+pub mod CompleteFunctions
+pub mod MemberTypes
+pub mod CompleteMembers
+pub mod CompleteClasses
+pub mod CompleteUnit

@@ -1,0 +1,45 @@
+// Laws of the parser's machine, each proved by the function of its name.
+ghost use Rattle.cc_grammar_laws.specs.Laws as spec;
+
+/// A run of the machine ends with at most one list of values.
+#[tactic(auto, using(crate::proofs::Uniqueness::one_end))]
+pub fn one_end()
+    ensures { spec.OneEnd }
+{}
+
+/// The tokens of a type are read as that type, and tokens that are read as a type and no more are a spelling of it.
+#[tactic(auto, using(crate::proofs::CompleteTypes::types_are_read, crate::proofs::SoundTypes::only_types_are_read))]
+pub fn types_are_read()
+    ensures read { spec.TypesAreRead }
+    ensures only { spec.OnlyTypesAreRead }
+{}
+
+/// The tokens of an expression are read as that expression.
+#[tactic(auto, using(crate::proofs::Uniqueness::expressions_are_read))]
+pub fn expressions_are_read()
+    ensures { spec.ExpressionsAreRead }
+{}
+
+/// The tokens of a statement are read as that statement.
+#[tactic(auto, using(crate::proofs::Uniqueness::statements_are_read))]
+pub fn statements_are_read()
+    ensures { spec.StatementsAreRead }
+{}
+
+/// Tokens spell at most one type, at most one expression and at most one statement.
+#[tactic(auto, using(crate::proofs::Uniqueness::one_type, crate::proofs::Uniqueness::one_expression, crate::proofs::Uniqueness::one_statement))]
+pub fn one_tree()
+    ensures types { spec.OneType }
+    ensures expressions { spec.OneExpression }
+    ensures statements { spec.OneStatement }
+{}
+
+/// A source that spells a unit is read as that unit, and spells no other. A source that is refused spells none, and tokens
+/// that are refused whatever follows them begin none that does.
+#[tactic(auto, using(crate::proofs::CompleteUnit::units_are_read, crate::proofs::CompleteUnit::one_unit, crate::proofs::CompleteUnit::refuses_no_unit, crate::proofs::CompleteUnit::refuses_no_front))]
+pub fn units_are_read()
+    ensures read { spec.UnitsAreRead }
+    ensures one { spec.OneUnit }
+    ensures trees { spec.RefusesNoUnit }
+    ensures fronts { spec.RefusesNoFront }
+{}
