@@ -36,7 +36,7 @@ contextual_word word = unwrap_or (option_map (λ row. row.1) (find (λ row. byte
 
 -- the words that are left out of the language
 abbrev pub is_outside : List ℕ → Bool
-is_outside word = is_among (map (λ outside. outside.now) OUTSIDE_WORDS) word || starts_with nat_eq (codes "__") word
+is_outside word = is_among (map (λ outside. outside.now) OUTSIDE_WORDS) word || starts_with nat_eq word (codes "__")
 
 abbrev pub name_kind : Names → List ℕ → NameKind
 name_kind names word = cond (is_among names.types word) n.Type (cond (is_among names.functions word) n.Function n.Plain)
