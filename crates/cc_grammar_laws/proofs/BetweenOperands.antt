@@ -20,10 +20,10 @@ use Rattle.cc_table.specs.declared.symbols.Input.{Input}
 use Rattle.cc_table.specs.declared.symbols.Input.TheVariants as i
 use Rattle.cc_table.specs.declared.symbols.Symbol.{Symbol}
 use Rattle.cc_table.specs.declared.symbols.Symbol.TheVariants.{Non, Act, Back}
-use Rattle.cc_grammar_laws.specs.declared.value.Value.{Value}
-use Rattle.cc_grammar_laws.specs.declared.value.Value.TheVariants as v
-use Rattle.cc_grammar_laws.specs.Build.{build}
-use Rattle.cc_grammar_laws.specs.Machine.{Fed, fed, At, begins, joins, operator_part}
+use Rattle.cc_pushdown.specs.declared.value.Value.{Value}
+use Rattle.cc_pushdown.specs.declared.value.Value.TheVariants as v
+use Rattle.cc_pushdown.specs.Build.{build}
+use Rattle.cc_pushdown.specs.Machine.{Fed, fed, At, begins, joins, operator_part}
 use Rattle.cc_grammar_laws.specs.Read.{read, Passes}
 use Rattle.cc_grammar_laws.proofs.Meets.{Meets, same, ahead, behind, then, turn, pass, pass_fed, Plain, LooksAt, look, put_fed}
 use Rattle.cc_grammar_laws.proofs.Heads.{Heads, IsOperand, plain_name, function_name, operand_type}

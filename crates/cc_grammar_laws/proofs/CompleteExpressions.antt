@@ -39,11 +39,11 @@ use Rattle.cc_table.specs.declared.symbols.Input.{Input}
 use Rattle.cc_table.specs.declared.symbols.Input.TheVariants as i
 use Rattle.cc_table.specs.declared.symbols.Symbol.{Symbol}
 use Rattle.cc_table.specs.declared.symbols.Symbol.TheVariants.{Non, Act}
-use Rattle.cc_grammar_laws.specs.declared.value.Value.{Value}
-use Rattle.cc_grammar_laws.specs.declared.value.Value.TheVariants as v
-use Rattle.cc_grammar_laws.specs.Build.{grown_from, list_span_from}
-use Rattle.cc_grammar_laws.specs.Words.{assignment_of, prefix_of, postfix_of, selector_of, cast_of}
-use Rattle.cc_grammar_laws.specs.Machine.{Fed, fed, At, begins, keeps}
+use Rattle.cc_pushdown.specs.declared.value.Value.{Value}
+use Rattle.cc_pushdown.specs.declared.value.Value.TheVariants as v
+use Rattle.cc_pushdown.specs.Build.{grown_from, list_span_from}
+use Rattle.cc_pushdown.specs.Words.{assignment_of, prefix_of, postfix_of, selector_of, cast_of}
+use Rattle.cc_pushdown.specs.Machine.{Fed, fed, At, begins, keeps}
 use Rattle.cc_grammar_laws.specs.Read.{read, Passes}
 use Rattle.cc_grammar_laws.proofs.Meets.{Meets, same, ahead, behind, then, turn, with_values, pass, pass_fed, fed_passes, FedPasses, LooksAt, look, put_fed}
 use Rattle.cc_grammar_laws.proofs.CompleteTypes.{StartsName, type_comes, named_value, type_value}

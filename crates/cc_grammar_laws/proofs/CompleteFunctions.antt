@@ -16,10 +16,10 @@ use Rattle.cc_table.specs.declared.symbols.Sort.TheVariants as o
 use Rattle.cc_table.specs.declared.symbols.Action.TheVariants as a
 use Rattle.cc_table.specs.declared.symbols.Symbol.{Symbol}
 use Rattle.cc_table.specs.declared.symbols.Symbol.TheVariants.{Non, Act}
-use Rattle.cc_grammar_laws.specs.declared.value.Value.{Value}
-use Rattle.cc_grammar_laws.specs.declared.value.Value.TheVariants as v
-use Rattle.cc_grammar_laws.specs.Build.{grown_from, list_span_from}
-use Rattle.cc_grammar_laws.specs.Machine.{At}
+use Rattle.cc_pushdown.specs.declared.value.Value.{Value}
+use Rattle.cc_pushdown.specs.declared.value.Value.TheVariants as v
+use Rattle.cc_pushdown.specs.Build.{grown_from, list_span_from}
+use Rattle.cc_pushdown.specs.Machine.{At}
 use Rattle.cc_grammar_laws.specs.Read.{read, Passes}
 use Rattle.cc_grammar_laws.proofs.Meets.{Meets, same, ahead, then, with_values, pass}
 use Rattle.cc_grammar_laws.proofs.CompleteTypes.{StartsName, named_starts, TypeEnds, type_comes, named_value}
@@ -43,7 +43,7 @@ use Rattle.cc_grammar_laws.proofs.CompleteTypes.{path_comes, named_by, named_com
 use Rattle.cc_grammar_laws.proofs.CompleteStatements.{block_comes}
 use Rattle.cc_tree.specs.declared.token.TokenKind.{TokenKind}
 use Rattle.cc_tree.specs.declared.token.TokenKind.TheVariants as number
-use Rattle.cc_grammar_laws.specs.Values.{top_number}
+use Rattle.cc_pushdown.specs.Values.{top_number}
 use Rattle.cc_grammar_laws.specs.Read.{number_value}
 
 -- the span of a list with one more item, and then some more

@@ -20,9 +20,9 @@ use Rattle.cc_table.specs.declared.symbols.Action.TheVariants as a
 use Rattle.cc_table.specs.declared.symbols.Input.TheVariants as i
 use Rattle.cc_table.specs.declared.symbols.Symbol.{Symbol}
 use Rattle.cc_table.specs.declared.symbols.Symbol.TheVariants.{Non, Act, Back}
-use Rattle.cc_grammar_laws.specs.declared.value.Value.{Value}
-use Rattle.cc_grammar_laws.specs.declared.value.Value.TheVariants as v
-use Rattle.cc_grammar_laws.specs.Machine.{fed, At, begins, keeps}
+use Rattle.cc_pushdown.specs.declared.value.Value.{Value}
+use Rattle.cc_pushdown.specs.declared.value.Value.TheVariants as v
+use Rattle.cc_pushdown.specs.Machine.{fed, At, begins, keeps}
 use Rattle.cc_grammar_laws.specs.Read.{read, read_value, Passes}
 use Rattle.cc_grammar_laws.proofs.Meets.{Meets, same, ahead, behind, then, with_values, pass, LooksAt, look}
 use Rattle.cc_grammar_laws.proofs.CompleteTypes.{StartsFundamental, starts_fundamental, StartsName, named_starts, TypeEnds, type_comes}
@@ -44,7 +44,7 @@ use Rattle.cc_tree.specs.GrammarMembers.{ReadsParameter, ReadsParameterList, Rea
 use Rattle.cc_grammar_laws.proofs.Starts.{type_facts}
 use Rattle.cc_grammar_laws.proofs.CompleteStatements.{block_comes}
 use Rattle.std.specs.Str.{bytes_eq}
-use Rattle.cc_grammar_laws.specs.declared.value.ClassHead.{ClassHead}
+use Rattle.cc_pushdown.specs.declared.value.ClassHead.{ClassHead}
 use Rattle.cc_grammar_laws.proofs.CompleteFunctions.{ParameterPart, parameters_come, tail_comes, accessor_comes, accessors_come, initializers_come}
 use Rattle.std.proofs.lemmas.Slice.Eq.{bytes_eq-Decides}
 use Rattle.cc_grammar_laws.proofs.CompleteStatements.{id_ends}

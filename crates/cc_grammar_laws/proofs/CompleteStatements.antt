@@ -17,9 +17,9 @@ use Rattle.cc_table.specs.declared.symbols.Input.{Input}
 use Rattle.cc_table.specs.declared.symbols.Input.TheVariants as i
 use Rattle.cc_table.specs.declared.symbols.Symbol.{Symbol}
 use Rattle.cc_table.specs.declared.symbols.Symbol.TheVariants.{Non, Act}
-use Rattle.cc_grammar_laws.specs.declared.value.Value.{Value}
-use Rattle.cc_grammar_laws.specs.declared.value.Value.TheVariants as v
-use Rattle.cc_grammar_laws.specs.Machine.{fed, At, begins, keeps}
+use Rattle.cc_pushdown.specs.declared.value.Value.{Value}
+use Rattle.cc_pushdown.specs.declared.value.Value.TheVariants as v
+use Rattle.cc_pushdown.specs.Machine.{fed, At, begins, keeps}
 use Rattle.cc_grammar_laws.specs.Read.{read, Passes}
 use Rattle.cc_grammar_laws.proofs.Meets.{Meets, same, ahead, then, with_values, pass, pass_fed, Plain, LooksAt, look}
 use Rattle.cc_grammar_laws.proofs.CompleteTypes.{TypeEnds, type_comes}

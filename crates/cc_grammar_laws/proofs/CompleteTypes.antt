@@ -21,9 +21,9 @@ use Rattle.cc_table.specs.declared.symbols.Action.TheVariants as a
 use Rattle.cc_table.specs.declared.symbols.Symbol.{Symbol}
 use Rattle.cc_table.specs.declared.symbols.Symbol.TheVariants.{Non, Act}
 use Rattle.cc_table.specs.Choice.{begins_fundamental}
-use Rattle.cc_grammar_laws.specs.declared.value.Value.{Value}
-use Rattle.cc_grammar_laws.specs.declared.value.Value.TheVariants as v
-use Rattle.cc_grammar_laws.specs.Machine.{At}
+use Rattle.cc_pushdown.specs.declared.value.Value.{Value}
+use Rattle.cc_pushdown.specs.declared.value.Value.TheVariants as v
+use Rattle.cc_pushdown.specs.Machine.{At}
 use Rattle.cc_grammar_laws.specs.Read.{read, Passes}
 use Rattle.cc_grammar_laws.specs.Laws.{TypesAreRead}
 use Rattle.cc_grammar_laws.proofs.Meets.{Meets, same, ahead, then, comes, with_values, pass}

@@ -18,10 +18,10 @@ use Rattle.cc_table.specs.declared.symbols.Action.TheVariants as a
 use Rattle.cc_table.specs.declared.symbols.Input.TheVariants as i
 use Rattle.cc_table.specs.declared.symbols.Symbol.{Symbol}
 use Rattle.cc_table.specs.declared.symbols.Symbol.TheVariants.{Non, Act}
-use Rattle.cc_grammar_laws.specs.declared.value.Value.{Value}
-use Rattle.cc_grammar_laws.specs.declared.value.Value.TheVariants as v
-use Rattle.cc_grammar_laws.specs.Build.{grown_from}
-use Rattle.cc_grammar_laws.specs.Machine.{fed, At}
+use Rattle.cc_pushdown.specs.declared.value.Value.{Value}
+use Rattle.cc_pushdown.specs.declared.value.Value.TheVariants as v
+use Rattle.cc_pushdown.specs.Build.{grown_from}
+use Rattle.cc_pushdown.specs.Machine.{fed, At}
 use Rattle.cc_grammar_laws.specs.Read.{read, read_value, Passes}
 use Rattle.cc_grammar_laws.proofs.Meets.{Meets, same, ahead, then, with_values, pass, LooksAt, look}
 use Rattle.cc_grammar_laws.proofs.CompleteTypes.{StartsFundamental, starts_fundamental, StartsName, named_starts}
@@ -42,8 +42,8 @@ use Rattle.cc_tree.specs.declared.word.TheConstants.{GRAMMAR_SIGNS}
 use Rattle.std.specs.Prelude.{slice_get, zero}
 use Rattle.cc_tree.specs.GrammarUnit as u
 use Rattle.cc_tree.specs.GrammarUnit.{ReadsKey, ReadsClassModifiers, ReadsBase, ReadsBaseList, ReadsBases, ReadsClass, ReadsEnumerator, ReadsEnumerators, ReadsEnum, ReadsFunction, ReadsTemplateParameters, ReadsTemplate, ReadsNamespace, ReadsOuter, ReadsOuters, Spells}
-use Rattle.cc_grammar_laws.specs.Machine.{feed, value_of, Comes, Done}
-use Rattle.cc_grammar_laws.specs.Values.{top_unit}
+use Rattle.cc_pushdown.specs.Machine.{feed, value_of, Comes, Done}
+use Rattle.cc_pushdown.specs.Values.{top_unit}
 use Rattle.cc_grammar_laws.specs.Laws.{UnitsAreRead, OneUnit, RefusesNoFront, RefusesNoUnit}
 use Rattle.cc_grammar_laws.proofs.Meets.{comes}
 use Rattle.cc_grammar_laws.proofs.Uniqueness.{ends_once, not_both}
@@ -179,7 +179,7 @@ same_value names (number.Character c) span = refl
 same_value names (number.Literal text) span = refl
 same_value names (number.Sign n) span = sign_value (slice_get GRAMMAR_SIGNS n) n span
 
-fed_as_read : (names : Names) (tokens : List Token) → map feed (classify names tokens) ≡ read (classify names tokens)
+pub fed_as_read : (names : Names) (tokens : List Token) → map feed (classify names tokens) ≡ read (classify names tokens)
 fed_as_read names [] = refl
 fed_as_read names (one ∷ tokens) = ap (λ q. fed (i.Token (terminal names one.kind)) q ∷ map feed (classify names tokens)) (same_value names one.kind one.span) ∙ ap (λ q. fed (i.Token (terminal names one.kind)) (read_value (terminal names one.kind) one.kind one.span) ∷ q) (fed_as_read names tokens)
 

@@ -21,9 +21,9 @@ use Rattle.cc_table.specs.declared.symbols.Input.{Input}
 use Rattle.cc_table.specs.declared.symbols.Input.TheVariants as i
 use Rattle.cc_table.specs.declared.symbols.Symbol.{Symbol}
 use Rattle.cc_table.specs.declared.symbols.Symbol.TheVariants.{Non, Act, Back}
-use Rattle.cc_grammar_laws.specs.declared.value.Value.{Value}
-use Rattle.cc_grammar_laws.specs.declared.value.Value.TheVariants as v
-use Rattle.cc_grammar_laws.specs.Machine.{Fed, fed, At, begins, keeps}
+use Rattle.cc_pushdown.specs.declared.value.Value.{Value}
+use Rattle.cc_pushdown.specs.declared.value.Value.TheVariants as v
+use Rattle.cc_pushdown.specs.Machine.{Fed, fed, At, begins, keeps}
 use Rattle.cc_grammar_laws.specs.Read.{read, Passes}
 use Rattle.cc_grammar_laws.proofs.Meets.{Meets, same, ahead, then, with_values, pass, Plain, LooksAt, look, put_fed}
 use Rattle.cc_grammar_laws.proofs.CompleteTypes.{CoreEnds, TypeEnds, StartsFundamental, starts_fundamental, fundamental_comes, types_comes, named_value, type_value}

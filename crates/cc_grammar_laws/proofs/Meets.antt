@@ -8,8 +8,8 @@ use Rattle.cc_table.specs.declared.symbols.Input.TheVariants as i
 use Rattle.cc_table.specs.declared.symbols.Symbol.{Symbol}
 use Rattle.cc_table.specs.declared.symbols.Symbol.TheVariants.{Non}
 use Rattle.cc_table.specs.Table.{otherwise}
-use Rattle.cc_grammar_laws.specs.declared.value.Value.{Value}
-use Rattle.cc_grammar_laws.specs.Machine.{Fed, fed, Config, At, Done, begins, Taken, looks, lack, put, seen, step, Comes, here, on}
+use Rattle.cc_pushdown.specs.declared.value.Value.{Value}
+use Rattle.cc_pushdown.specs.Machine.{Fed, fed, Config, At, Done, begins, Taken, looks, lack, put, seen, step, Comes, here, on}
 use Rattle.cc_grammar_laws.specs.Read.{read, read_value, Passes}
 
 -- Some steps from the one and some steps from the other lead to the same.

@@ -20,9 +20,9 @@ use Rattle.cc_table.specs.declared.symbols.Action.TheVariants as a
 use Rattle.cc_table.specs.declared.symbols.Input.TheVariants as i
 use Rattle.cc_table.specs.declared.symbols.Symbol.{Symbol}
 use Rattle.cc_table.specs.declared.symbols.Symbol.TheVariants.{Non, Act, Back}
-use Rattle.cc_grammar_laws.specs.declared.value.Value.{Value}
-use Rattle.cc_grammar_laws.specs.declared.value.Value.TheVariants as v
-use Rattle.cc_grammar_laws.specs.Machine.{Fed, fed, At, begins, keeps}
+use Rattle.cc_pushdown.specs.declared.value.Value.{Value}
+use Rattle.cc_pushdown.specs.declared.value.Value.TheVariants as v
+use Rattle.cc_pushdown.specs.Machine.{Fed, fed, At, begins, keeps}
 use Rattle.cc_grammar_laws.specs.Read.{read, read_value, Passes}
 use Rattle.cc_grammar_laws.proofs.Meets.{Meets, same, ahead, then, pass, pass_fed, FedPasses, Plain, LooksAt, look, put_fed}
 use Rattle.cc_grammar_laws.proofs.CompleteTypes.{StartsFundamental, starts_fundamental, TypeEnds, CoreEnds, type_comes, named_value, type_value}

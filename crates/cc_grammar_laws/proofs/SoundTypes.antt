@@ -24,12 +24,12 @@ use Rattle.cc_table.specs.declared.symbols.Action.TheVariants as a
 use Rattle.cc_table.specs.declared.symbols.Symbol.{Symbol}
 use Rattle.cc_table.specs.declared.symbols.Symbol.TheVariants.{Non, Act, Back}
 use Rattle.cc_table.specs.Table.{otherwise}
-use Rattle.cc_grammar_laws.specs.declared.value.Node.{Node}
-use Rattle.cc_grammar_laws.specs.declared.value.Value.{Value}
-use Rattle.cc_grammar_laws.specs.declared.value.Value.TheVariants as v
-use Rattle.cc_grammar_laws.specs.Values.{below, top_mark, top_qualified, top_path}
-use Rattle.cc_grammar_laws.specs.Build.{build}
-use Rattle.cc_grammar_laws.specs.Machine.{Config, At, Bad, Done, lack, step, Comes, here, on}
+use Rattle.cc_pushdown.specs.declared.value.Node.{Node}
+use Rattle.cc_pushdown.specs.declared.value.Value.{Value}
+use Rattle.cc_pushdown.specs.declared.value.Value.TheVariants as v
+use Rattle.cc_pushdown.specs.Values.{below, top_mark, top_qualified, top_path}
+use Rattle.cc_pushdown.specs.Build.{build}
+use Rattle.cc_pushdown.specs.Machine.{Config, At, Bad, Done, lack, step, Comes, here, on}
 use Rattle.cc_grammar_laws.specs.Read.{read}
 use Rattle.cc_grammar_laws.specs.Laws.{OnlyTypesAreRead}
 use Rattle.cc_grammar_laws.proofs.CompleteTypes.{type_value}

@@ -28,8 +28,8 @@ use Rattle.cc_tree.specs.GrammarExpressions.{ReadsStrings, IsNumber, ReadsExpres
 use Rattle.cc_table.specs.declared.symbols.Sort.TheVariants as o
 use Rattle.cc_table.specs.declared.symbols.Input.{Input}
 use Rattle.cc_table.specs.declared.symbols.Symbol.TheVariants.{Non}
-use Rattle.cc_grammar_laws.specs.declared.value.Value.{Value}
-use Rattle.cc_grammar_laws.specs.Machine.{Fed}
+use Rattle.cc_pushdown.specs.declared.value.Value.{Value}
+use Rattle.cc_pushdown.specs.Machine.{Fed}
 use Rattle.cc_grammar_laws.specs.Read.{Passes}
 use Rattle.cc_grammar_laws.proofs.Meets.{LooksAt}
 use Rattle.cc_grammar_laws.proofs.CompleteTypes.{StartsFundamental, starts_fundamental, StartsName, named_starts}

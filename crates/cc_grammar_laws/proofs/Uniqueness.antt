@@ -1,8 +1,8 @@
 -- A run has one end, so that tokens have one tree.
 use Rattle.std.proofs.Common.{◌≡◌, sym, ap, refl, List, []}
-use Rattle.cc_grammar_laws.specs.declared.value.Value.{Value}
-use Rattle.cc_grammar_laws.specs.Values.{top_type_name, top_expression, top_statement}
-use Rattle.cc_grammar_laws.specs.Machine.{Fed, Config, Bad, Done, Comes, here, on}
+use Rattle.cc_pushdown.specs.declared.value.Value.{Value}
+use Rattle.cc_pushdown.specs.Values.{top_type_name, top_expression, top_statement}
+use Rattle.cc_pushdown.specs.Machine.{Fed, Config, Bad, Done, Comes, here, on}
 use Rattle.cc_grammar_laws.specs.Laws.{OneEnd, ExpressionsAreRead, StatementsAreRead, OneType, OneExpression, OneStatement}
 use Rattle.cc_grammar_laws.proofs.Meets.{then, ahead, same, comes}
 use Rattle.cc_grammar_laws.proofs.CompleteTypes.{types_are_read}

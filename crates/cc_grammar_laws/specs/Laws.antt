@@ -13,9 +13,9 @@ use Rattle.cc_tree.specs.GrammarExpressions.{ReadsExpression}
 use Rattle.cc_tree.specs.GrammarStatements.{ReadsStatement}
 use Rattle.cc_table.specs.declared.symbols.Sort.TheVariants as o
 use Rattle.cc_table.specs.declared.symbols.Symbol.TheVariants.{Non}
-use Rattle.cc_grammar_laws.specs.declared.value.Value.{Value}
-use Rattle.cc_grammar_laws.specs.declared.value.Value.TheVariants as v
-use Rattle.cc_grammar_laws.specs.Machine.{Fed, Config, At, Bad, Comes, Done, start}
+use Rattle.cc_pushdown.specs.declared.value.Value.{Value}
+use Rattle.cc_pushdown.specs.declared.value.Value.TheVariants as v
+use Rattle.cc_pushdown.specs.Machine.{Fed, Config, At, Bad, Comes, Done, start}
 use Rattle.cc_grammar_laws.specs.Read.{read}
 
 -- A run of the machine ends with at most one list of values.
@@ -55,6 +55,10 @@ OneStatement = (a b : Statement) (first second : Span) (ts : List Classified) �
 -- A source that spells a unit is read as that unit.
 abbrev pub UnitsAreRead : Type 0
 UnitsAreRead = (names : Names) (tokens : List Token) (tree : unit.Unit) → Spells names tokens tree → Comes (start (classify names tokens)) (Done (v.Unit tree ∷ []))
+
+-- A source that is read as a unit spells it.
+abbrev pub OnlyUnitsAreRead : Type 0
+OnlyUnitsAreRead = (names : Names) (tokens : List Token) (tree : unit.Unit) → Comes (start (classify names tokens)) (Done (v.Unit tree ∷ [])) → Spells names tokens tree
 
 -- A source spells at most one unit.
 abbrev pub OneUnit : Type 0

@@ -1,6 +1,6 @@
-pub mod Build
-pub mod Values
-pub mod Words
-pub mod Machine
 pub mod Read
+pub mod Kinds
+pub mod Heights
+pub mod HeightLaws
 pub mod Laws
+pub mod Fronts

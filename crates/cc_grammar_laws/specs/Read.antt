@@ -10,9 +10,9 @@ use Rattle.cc_tree.specs.declared.terminal.Terminal.TheVariants as t
 use Rattle.cc_tree.specs.Terminals.{Classified, at, letters}
 use Rattle.cc_table.specs.declared.symbols.Sort.{Sort}
 use Rattle.cc_table.specs.declared.symbols.Input.TheVariants as i
-use Rattle.cc_grammar_laws.specs.declared.value.Value.{Value}
-use Rattle.cc_grammar_laws.specs.declared.value.Value.TheVariants as v
-use Rattle.cc_grammar_laws.specs.Machine.{Fed, fed, begins}
+use Rattle.cc_pushdown.specs.declared.value.Value.{Value}
+use Rattle.cc_pushdown.specs.declared.value.Value.TheVariants as v
+use Rattle.cc_pushdown.specs.Machine.{Fed, fed, begins}
 
 abbrev pub number_value : TokenKind → Span → Value
 number_value (k.Number value suffix radix) span = v.Number (record { value = value; suffix = suffix; radix = radix; span = span })

@@ -1,10 +1,11 @@
-//! Laws of the parser's machine: it reads what the grammar spells, and nothing else.
+//! Laws of the parser's automaton: it reads what the grammar spells, and nothing else.
 #![tactic(auto)]
 
+mod heights;
 mod laws;
-mod value;
 
+pub use heights::{depth_is_height, least_is_least, stack_fits};
 pub use laws::{
-    expressions_are_read, one_end, one_tree, statements_are_read, types_are_read, units_are_read,
+    expressions_are_read, fronts_are_completed, one_end, one_tree, statements_are_read,
+    types_are_read, units_are_read,
 };
-pub use value::{ClassHead, Mark, NameToken, Node, Numeral, QualifiedName, Value};

@@ -16,6 +16,6 @@ mod types;
 
 pub use choice::Chosen;
 pub use fallback::otherwise;
-pub use sizes::{gives, least, nests, takes, uses};
+pub use sizes::{Remains, adds, least, leaves, nests, receives, takes, uses};
 pub use symbols::{Action, Input, Pattern, Sort, Spelled, Symbol, Take};
 pub use table::begins;

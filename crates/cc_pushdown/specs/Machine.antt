@@ -24,10 +24,10 @@ use Rattle.cc_table.specs.declared.symbols.Take.{Take}
 use Rattle.cc_table.specs.declared.symbols.Take.TheVariants as take
 use Rattle.cc_table.specs.Choice.{choose}
 use Rattle.cc_table.specs.Table.{rows, otherwise}
-use Rattle.cc_grammar_laws.specs.declared.value.Value.{Value}
-use Rattle.cc_grammar_laws.specs.declared.value.Value.TheVariants as v
-use Rattle.cc_grammar_laws.specs.Values.{below, top, top_head, top_mark}
-use Rattle.cc_grammar_laws.specs.Build.{build}
+use Rattle.cc_pushdown.specs.declared.value.Value.{Value}
+use Rattle.cc_pushdown.specs.declared.value.Value.TheVariants as v
+use Rattle.cc_pushdown.specs.Values.{below, top, top_head, top_mark}
+use Rattle.cc_pushdown.specs.Build.{build}
 
 -- what the parser looks at, with its value
 pub data Fed : Type 0 where

@@ -33,7 +33,7 @@ use Rattle.cc_tree.specs.declared.terminal.Sign.TheVariants as s
 use Rattle.cc_tree.specs.declared.member.Storage.TheVariants as storage
 use Rattle.cc_tree.specs.declared.terminal.Terminal.TheVariants as t
 use Rattle.cc_tree.specs.declared.unit.Visibility.TheVariants as visibility
-use Rattle.cc_grammar_laws.specs.declared.value.Mark.{Mark}
+use Rattle.cc_pushdown.specs.declared.value.Mark.{Mark}
 
 abbrev pub assignment_of : Terminal → AssignmentOperator
 assignment_of (t.Sign s.AssignSum) = assignment.Add

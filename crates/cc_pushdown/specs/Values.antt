@@ -62,14 +62,14 @@ use Rattle.cc_tree.specs.declared.token.Suffix.TheVariants as suffix
 use Rattle.cc_tree.specs.declared.unit.Template.TheVariants as template
 use Rattle.cc_tree.specs.declared.terminal.Terminal.TheVariants as t
 use Rattle.cc_tree.specs.declared.type_name.TypeName.TheVariants as type
-use Rattle.cc_grammar_laws.specs.declared.value.Value.{Value}
-use Rattle.cc_grammar_laws.specs.declared.value.Node.{Node}
-use Rattle.cc_grammar_laws.specs.declared.value.Mark.{Mark}
-use Rattle.cc_grammar_laws.specs.declared.value.NameToken.{NameToken}
-use Rattle.cc_grammar_laws.specs.declared.value.Numeral.{Numeral}
-use Rattle.cc_grammar_laws.specs.declared.value.QualifiedName.{QualifiedName}
-use Rattle.cc_grammar_laws.specs.declared.value.ClassHead.{ClassHead}
-use Rattle.cc_grammar_laws.specs.declared.value.Value.TheVariants as v
+use Rattle.cc_pushdown.specs.declared.value.Value.{Value}
+use Rattle.cc_pushdown.specs.declared.value.Node.{Node}
+use Rattle.cc_pushdown.specs.declared.value.Mark.{Mark}
+use Rattle.cc_pushdown.specs.declared.value.NameToken.{NameToken}
+use Rattle.cc_pushdown.specs.declared.value.Numeral.{Numeral}
+use Rattle.cc_pushdown.specs.declared.value.QualifiedName.{QualifiedName}
+use Rattle.cc_pushdown.specs.declared.value.ClassHead.{ClassHead}
+use Rattle.cc_pushdown.specs.declared.value.Value.TheVariants as v
 
 -- the span of what is not there
 abbrev pub nowhere : Span

@@ -20,17 +20,17 @@ use Rattle.cc_tree.specs.declared.unit.Template.TheVariants as template
 use Rattle.cc_tree.specs.declared.type_name.TypeName.TheVariants as type
 use Rattle.cc_table.specs.declared.symbols.Action.{Action}
 use Rattle.cc_table.specs.declared.symbols.Action.TheVariants as a
-use Rattle.cc_grammar_laws.specs.declared.value.Value.{Value}
-use Rattle.cc_grammar_laws.specs.declared.value.Node.{Node}
-use Rattle.cc_grammar_laws.specs.declared.value.Mark.{Mark}
-use Rattle.cc_grammar_laws.specs.declared.value.NameToken.{NameToken}
-use Rattle.cc_grammar_laws.specs.declared.value.Numeral.{Numeral}
-use Rattle.cc_grammar_laws.specs.declared.value.QualifiedName.{QualifiedName}
-use Rattle.cc_grammar_laws.specs.declared.value.ClassHead.{ClassHead}
-use Rattle.cc_grammar_laws.specs.declared.value.Value.TheVariants as v
+use Rattle.cc_pushdown.specs.declared.value.Value.{Value}
+use Rattle.cc_pushdown.specs.declared.value.Node.{Node}
+use Rattle.cc_pushdown.specs.declared.value.Mark.{Mark}
+use Rattle.cc_pushdown.specs.declared.value.NameToken.{NameToken}
+use Rattle.cc_pushdown.specs.declared.value.Numeral.{Numeral}
+use Rattle.cc_pushdown.specs.declared.value.QualifiedName.{QualifiedName}
+use Rattle.cc_pushdown.specs.declared.value.ClassHead.{ClassHead}
+use Rattle.cc_pushdown.specs.declared.value.Value.TheVariants as v
 use Rattle.cc_tree.specs.Spans.{across, after, qualified_span}
-use Rattle.cc_grammar_laws.specs.Words.{access_of, accessor_of, aggregate_of, assignment_of, cast_of, class_modifier_of, class_word_of, is_static, is_virtual, parameter_word_of, postfix_of, prefix_of, selector_of, storage_of, visibility_of}
-use Rattle.cc_grammar_laws.specs.Values.{HasAccessor, HasAccessors, HasArguments, HasBase, HasBases, HasBlock, HasBody, HasCatches, HasCaught, HasCharacter, HasClass, HasClassModifiers, HasDeclarator, HasDeclarators, HasEnumeration, HasEnumerator, HasEnumerators, HasExpression, HasExpressions, HasForStart, HasFunction, HasHead, HasInitializer, HasInitializers, HasKey, HasLabel, HasLabels, HasLiteral, HasLocal, HasMark, HasMember, HasMembers, HasModifierWord, HasModifiers, HasName, HasNamedFunction, HasNamedFunctions, HasNames, HasNumber, HasOperator, HasOptional, HasOuter, HasOuters, HasOverridden, HasParameterList, HasParameters, HasPath, HasPropertyName, HasPropertyType, HasQualified, HasSections, HasStatement, HasStatements, HasStorage, HasTemplate, HasTemplateParameter, HasTemplateParameters, HasTexts, HasType, HasTypeArguments, HasTypes, below, nowhere, top_accessor, top_accessors, top_arguments, top_base, top_bases, top_block, top_body, top_catches, top_caught, top_character, top_class, top_class_modifiers, top_declarator, top_declarators, top_enumeration, top_enumerator, top_enumerators, top_expression, top_expressions, top_for_start, top_function, top_head, top_initializer, top_initializers, top_key, top_label, top_labels, top_literal, top_local, top_mark, top_member, top_members, top_modifier, top_modifiers, top_name, top_named_function, top_named_functions, top_names, top_number, top_operator, top_optional, top_outer, top_outers, top_overridden, top_parameter_list, top_parameters, top_path, top_property_name, top_property_type, top_qualified, top_sections, top_statement, top_statements, top_storage, top_template, top_template_parameter, top_template_parameters, top_texts, top_type_arguments, top_type_name, top_types}
+use Rattle.cc_pushdown.specs.Words.{access_of, accessor_of, aggregate_of, assignment_of, cast_of, class_modifier_of, class_word_of, is_static, is_virtual, parameter_word_of, postfix_of, prefix_of, selector_of, storage_of, visibility_of}
+use Rattle.cc_pushdown.specs.Values.{HasAccessor, HasAccessors, HasArguments, HasBase, HasBases, HasBlock, HasBody, HasCatches, HasCaught, HasCharacter, HasClass, HasClassModifiers, HasDeclarator, HasDeclarators, HasEnumeration, HasEnumerator, HasEnumerators, HasExpression, HasExpressions, HasForStart, HasFunction, HasHead, HasInitializer, HasInitializers, HasKey, HasLabel, HasLabels, HasLiteral, HasLocal, HasMark, HasMember, HasMembers, HasModifierWord, HasModifiers, HasName, HasNamedFunction, HasNamedFunctions, HasNames, HasNumber, HasOperator, HasOptional, HasOuter, HasOuters, HasOverridden, HasParameterList, HasParameters, HasPath, HasPropertyName, HasPropertyType, HasQualified, HasSections, HasStatement, HasStatements, HasStorage, HasTemplate, HasTemplateParameter, HasTemplateParameters, HasTexts, HasType, HasTypeArguments, HasTypes, below, nowhere, top_accessor, top_accessors, top_arguments, top_base, top_bases, top_block, top_body, top_catches, top_caught, top_character, top_class, top_class_modifiers, top_declarator, top_declarators, top_enumeration, top_enumerator, top_enumerators, top_expression, top_expressions, top_for_start, top_function, top_head, top_initializer, top_initializers, top_key, top_label, top_labels, top_literal, top_local, top_mark, top_member, top_members, top_modifier, top_modifiers, top_name, top_named_function, top_named_functions, top_names, top_number, top_operator, top_optional, top_outer, top_outers, top_overridden, top_parameter_list, top_parameters, top_path, top_property_name, top_property_type, top_qualified, top_sections, top_statement, top_statements, top_storage, top_template, top_template_parameter, top_template_parameters, top_texts, top_type_arguments, top_type_name, top_types}
 
 -- two marks as one
 abbrev pub joined : Mark → Mark → Mark

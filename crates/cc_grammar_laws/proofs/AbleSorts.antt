@@ -1,0 +1,176 @@
+-- The least tokens of each part.
+use Rattle.std.proofs.Common.{List}
+use Rattle.cc_table.specs.declared.symbols.Sort.{Sort}
+use Rattle.cc_table.specs.declared.symbols.Sort.TheVariants as o
+use Rattle.cc_pushdown.specs.declared.value.Value.{Value}
+use Rattle.cc_grammar_laws.proofs.Tokens.{Given}
+use Rattle.cc_grammar_laws.proofs.AbleTypes.{Fill, fill_open_parenthesis, fill_close_parenthesis, fill_open_brace, fill_open_bracket, fill_close_bracket, fill_close_brace, fill_less, fill_greater, fill_colon, fill_semicolon, fill_scope, fill_kept_open_parenthesis, fill_kept_close_parenthesis, fill_kept_close_brace, fill_kept_close_bracket, fill_kept_semicolon, fill_kept_colon, fill_kept_less, fill_kept_greater, fill_namespace_word, fill_while_word, fill_in_word, fill_identifier, fill_any_name, fill_number_token, fill_long_word, fill_optional_int, fill_fundamental, fill_signed_rest, fill_unsigned_rest, fill_type, fill_type_marks, fill_handle_rest, fill_named_type, fill_type_path, fill_template_arguments, fill_more_types}
+use Rattle.cc_grammar_laws.proofs.AbleExpressions.{fill_expression, fill_unary, fill_arguments, fill_more_expressions, fill_after_unary, fill_conditional_rest, fill_operand, fill_type_operand_rest, fill_function_name_rest, fill_after_name_less, fill_name_types, fill_strings_rest, fill_after_parenthesis, fill_cast_or_group, fill_suffix_rest, fill_selected, fill_function_member_rest, fill_after_member_less, fill_member_types, fill_new_name, fill_new_path, fill_new_type_rest, fill_after_new_less, fill_new_types, fill_new_arguments, fill_new_elements}
+use Rattle.cc_grammar_laws.proofs.AbleStatements.{fill_block, fill_statement, fill_local_or_expression, fill_statements, fill_section_statements, fill_else_rest, fill_for_rest, fill_for_start, fill_local_or_expression_start, fill_optional_expression, fill_for_advance, fill_sections, fill_label, fill_try_rest, fill_more_catches, fill_catch, fill_caught, fill_caught_name, fill_declarator, fill_declarator_rest, fill_declarator_value, fill_more_declarators}
+use Rattle.cc_grammar_laws.proofs.AbleMembers.{fill_parameters, fill_parameter_name, fill_more_parameters, fill_modifiers, fill_overriding, fill_overridden, fill_named_function, fill_named_accessor, fill_more_named_functions, fill_body, fill_accessor_word, fill_accessor, fill_accessors, fill_initializers, fill_more_initializers, fill_initializer, fill_initializer_name, fill_members, fill_member, fill_virtual_start, fill_virtual_member, fill_static_member, fill_member_start, fill_member_rest, fill_member_name, fill_fields_or_function, fill_property_body, fill_virtual_name, fill_field_names, fill_property_name}
+use Rattle.cc_grammar_laws.proofs.AbleOuter.{fill_unit_rest, fill_outers, fill_outer, fill_namespace_names, fill_function_rest, fill_key_or_namespace, fill_key_or_type, fill_forward_or_class, fill_class_rest, fill_class_modifiers, fill_bases, fill_base, fill_more_bases, fill_visible_rest, fill_template_rest, fill_template_key_or_namespace, fill_template_key_or_type, fill_aggregate_word, fill_enumeration, fill_enumerators, fill_more_enumerators, fill_enumerator, fill_enumerator_rest, fill_enumerator_number, fill_template_parameter, fill_more_template_parameters}
+
+-- The least tokens of all others depend on what follows them.
+abbrev pub IsFilled : Sort → Type 0
+IsFilled o.TypeOrName = ⊥
+IsFilled o.NameEnd = ⊥
+IsFilled o.FunctionNameEnd = ⊥
+IsFilled o.PathRest = ⊥
+IsFilled o.CoreEnd = ⊥
+IsFilled o.GreaterEnd = ⊥
+IsFilled (o.BinaryRest n) = ⊥
+IsFilled o.MoreLabels = ⊥
+IsFilled o.OwnName = ⊥
+IsFilled o.OwnTypeEnd = ⊥
+IsFilled o.OwnNamespaceEnd = ⊥
+IsFilled o.OwnPropertyTypeEnd = ⊥
+IsFilled o.OwnPropertyNamespaceEnd = ⊥
+IsFilled o.TypeOrProperty = ⊥
+IsFilled o.PropertyOrType = ⊥
+IsFilled o.PropertyTypeOrName = ⊥
+IsFilled o.PropertyOrNamespace = ⊥
+IsFilled _ = Unit {0}
+
+pub fill : (given : Given) (sort : Sort) → IsFilled sort → (vs : List Value) → Fill given sort vs
+fill given o.OpenParenthesis h vs = fill_open_parenthesis given vs
+fill given o.CloseParenthesis h vs = fill_close_parenthesis given vs
+fill given o.OpenBrace h vs = fill_open_brace given vs
+fill given o.OpenBracket h vs = fill_open_bracket given vs
+fill given o.CloseBracket h vs = fill_close_bracket given vs
+fill given o.CloseBrace h vs = fill_close_brace given vs
+fill given o.Less h vs = fill_less given vs
+fill given o.Greater h vs = fill_greater given vs
+fill given o.Colon h vs = fill_colon given vs
+fill given o.Semicolon h vs = fill_semicolon given vs
+fill given o.Scope h vs = fill_scope given vs
+fill given o.NamespaceWord h vs = fill_namespace_word given vs
+fill given o.WhileWord h vs = fill_while_word given vs
+fill given o.InWord h vs = fill_in_word given vs
+fill given o.KeptOpenParenthesis h vs = fill_kept_open_parenthesis given vs
+fill given o.KeptCloseParenthesis h vs = fill_kept_close_parenthesis given vs
+fill given o.KeptCloseBrace h vs = fill_kept_close_brace given vs
+fill given o.KeptCloseBracket h vs = fill_kept_close_bracket given vs
+fill given o.KeptSemicolon h vs = fill_kept_semicolon given vs
+fill given o.KeptColon h vs = fill_kept_colon given vs
+fill given o.KeptGreater h vs = fill_kept_greater given vs
+fill given o.KeptLess h vs = fill_kept_less given vs
+fill given o.Identifier h vs = fill_identifier given vs
+fill given o.AnyName h vs = fill_any_name given vs
+fill given o.NumberToken h vs = fill_number_token given vs
+fill given o.AggregateWord h vs = fill_aggregate_word given vs
+fill given o.AccessorWord h vs = fill_accessor_word given vs
+fill given o.Fundamental h vs = fill_fundamental given vs
+fill given o.SignedRest h vs = fill_signed_rest given vs
+fill given o.UnsignedRest h vs = fill_unsigned_rest given vs
+fill given o.OptionalInt h vs = fill_optional_int given vs
+fill given o.LongWord h vs = fill_long_word given vs
+fill given o.Type h vs = fill_type given vs
+fill given o.TypeMarks h vs = fill_type_marks given vs
+fill given o.HandleRest h vs = fill_handle_rest given vs
+fill given o.NamedType h vs = fill_named_type given vs
+fill given o.TypePath h vs = fill_type_path given vs
+fill given o.TemplateArguments h vs = fill_template_arguments given vs
+fill given o.MoreTypes h vs = fill_more_types given vs
+fill given o.Expression h vs = fill_expression given vs
+fill given o.AfterUnary h vs = fill_after_unary given vs
+fill given o.ConditionalRest h vs = fill_conditional_rest given vs
+fill given o.Unary h vs = fill_unary given vs
+fill given o.Operand h vs = fill_operand given vs
+fill given o.TypeOperandRest h vs = fill_type_operand_rest given vs
+fill given o.FunctionNameRest h vs = fill_function_name_rest given vs
+fill given o.AfterNameLess h vs = fill_after_name_less given vs
+fill given o.NameTypes h vs = fill_name_types given vs
+fill given o.StringsRest h vs = fill_strings_rest given vs
+fill given o.AfterParenthesis h vs = fill_after_parenthesis given vs
+fill given o.CastOrGroup h vs = fill_cast_or_group given vs
+fill given o.SuffixRest h vs = fill_suffix_rest given vs
+fill given o.Selected h vs = fill_selected given vs
+fill given o.FunctionMemberRest h vs = fill_function_member_rest given vs
+fill given o.AfterMemberLess h vs = fill_after_member_less given vs
+fill given o.MemberTypes h vs = fill_member_types given vs
+fill given o.Arguments h vs = fill_arguments given vs
+fill given o.MoreExpressions h vs = fill_more_expressions given vs
+fill given o.NewName h vs = fill_new_name given vs
+fill given o.NewPath h vs = fill_new_path given vs
+fill given o.NewTypeRest h vs = fill_new_type_rest given vs
+fill given o.AfterNewLess h vs = fill_after_new_less given vs
+fill given o.NewTypes h vs = fill_new_types given vs
+fill given o.NewArguments h vs = fill_new_arguments given vs
+fill given o.NewElements h vs = fill_new_elements given vs
+fill given o.Statement h vs = fill_statement given vs
+fill given o.LocalOrExpression h vs = fill_local_or_expression given vs
+fill given o.Block h vs = fill_block given vs
+fill given o.Statements h vs = fill_statements given vs
+fill given o.ElseRest h vs = fill_else_rest given vs
+fill given o.ForRest h vs = fill_for_rest given vs
+fill given o.ForStart h vs = fill_for_start given vs
+fill given o.LocalOrExpressionStart h vs = fill_local_or_expression_start given vs
+fill given o.OptionalExpression h vs = fill_optional_expression given vs
+fill given o.ForAdvance h vs = fill_for_advance given vs
+fill given o.Sections h vs = fill_sections given vs
+fill given o.Label h vs = fill_label given vs
+fill given o.SectionStatements h vs = fill_section_statements given vs
+fill given o.TryRest h vs = fill_try_rest given vs
+fill given o.MoreCatches h vs = fill_more_catches given vs
+fill given o.Catch h vs = fill_catch given vs
+fill given o.Caught h vs = fill_caught given vs
+fill given o.CaughtName h vs = fill_caught_name given vs
+fill given o.Declarator h vs = fill_declarator given vs
+fill given o.DeclaratorRest h vs = fill_declarator_rest given vs
+fill given o.DeclaratorValue h vs = fill_declarator_value given vs
+fill given o.MoreDeclarators h vs = fill_more_declarators given vs
+fill given o.Parameters h vs = fill_parameters given vs
+fill given o.ParameterName h vs = fill_parameter_name given vs
+fill given o.MoreParameters h vs = fill_more_parameters given vs
+fill given o.Modifiers h vs = fill_modifiers given vs
+fill given o.Overriding h vs = fill_overriding given vs
+fill given o.Overridden h vs = fill_overridden given vs
+fill given o.NamedFunction h vs = fill_named_function given vs
+fill given o.NamedAccessor h vs = fill_named_accessor given vs
+fill given o.MoreNamedFunctions h vs = fill_more_named_functions given vs
+fill given o.Body h vs = fill_body given vs
+fill given o.Accessor h vs = fill_accessor given vs
+fill given o.Accessors h vs = fill_accessors given vs
+fill given o.Initializers h vs = fill_initializers given vs
+fill given o.MoreInitializers h vs = fill_more_initializers given vs
+fill given o.Initializer h vs = fill_initializer given vs
+fill given o.InitializerName h vs = fill_initializer_name given vs
+fill given o.Member h vs = fill_member given vs
+fill given o.VirtualStart h vs = fill_virtual_start given vs
+fill given o.MemberStart h vs = fill_member_start given vs
+fill given o.MemberRest h vs = fill_member_rest given vs
+fill given o.StaticMember h vs = fill_static_member given vs
+fill given o.VirtualMember h vs = fill_virtual_member given vs
+fill given o.MemberName h vs = fill_member_name given vs
+fill given o.VirtualName h vs = fill_virtual_name given vs
+fill given o.FieldsOrFunction h vs = fill_fields_or_function given vs
+fill given o.FieldNames h vs = fill_field_names given vs
+fill given o.PropertyName h vs = fill_property_name given vs
+fill given o.PropertyBody h vs = fill_property_body given vs
+fill given o.Members h vs = fill_members given vs
+fill given o.UnitRest h vs = fill_unit_rest given vs
+fill given o.Outers h vs = fill_outers given vs
+fill given o.Outer h vs = fill_outer given vs
+fill given o.NamespaceNames h vs = fill_namespace_names given vs
+fill given o.FunctionRest h vs = fill_function_rest given vs
+fill given o.KeyOrNamespace h vs = fill_key_or_namespace given vs
+fill given o.KeyOrType h vs = fill_key_or_type given vs
+fill given o.ForwardOrClass h vs = fill_forward_or_class given vs
+fill given o.ClassRest h vs = fill_class_rest given vs
+fill given o.ClassModifiers h vs = fill_class_modifiers given vs
+fill given o.Bases h vs = fill_bases given vs
+fill given o.Base h vs = fill_base given vs
+fill given o.MoreBases h vs = fill_more_bases given vs
+fill given o.VisibleRest h vs = fill_visible_rest given vs
+fill given o.TemplateRest h vs = fill_template_rest given vs
+fill given o.TemplateKeyOrNamespace h vs = fill_template_key_or_namespace given vs
+fill given o.TemplateKeyOrType h vs = fill_template_key_or_type given vs
+fill given o.Enumeration h vs = fill_enumeration given vs
+fill given o.Enumerators h vs = fill_enumerators given vs
+fill given o.MoreEnumerators h vs = fill_more_enumerators given vs
+fill given o.Enumerator h vs = fill_enumerator given vs
+fill given o.EnumeratorRest h vs = fill_enumerator_rest given vs
+fill given o.EnumeratorNumber h vs = fill_enumerator_number given vs
+fill given o.TemplateParameter h vs = fill_template_parameter given vs
+fill given o.MoreTemplateParameters h vs = fill_more_template_parameters given vs
+fill given _ h vs = absurd h

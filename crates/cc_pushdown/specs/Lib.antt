@@ -1,0 +1,4 @@
+pub mod Build
+pub mod Values
+pub mod Words
+pub mod Machine
