@@ -1,0 +1,4 @@
+pub mod Awaited
+pub mod Faults
+pub mod Scan
+pub mod Words
