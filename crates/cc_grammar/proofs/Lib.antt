@@ -1,0 +1,9 @@
+pub mod Falls
+pub mod Meeting
+pub mod Going
+pub mod Capped
+pub mod Walked
+pub mod Measured
+pub mod Tokens
+pub mod Parsed
+pub mod Scanned

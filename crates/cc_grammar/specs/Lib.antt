@@ -1,0 +1,5 @@
+pub mod Weight
+pub mod Turns
+pub mod Depths
+pub mod Reading
+pub mod Parse
