@@ -1,15 +1,18 @@
 -- Heights up to the limit of depth: they are raised as the heights themselves are.
-use Rattle.std.proofs.Common.{◌≡◌, ◌∙◌, sym, ap, refl, ◌+◌, ◌-◌, ◌<◌, ℕ, zero, suc, max, min, cond, List, [], ◌∷◌, drop, Bool, true, false, arith}
+use Rattle.std.proofs.Common.{◌≡◌, ◌∙◌, sym, ap, refl, ◌+◌, ◌-◌, ◌<◌, ℕ, zero, suc, max, min, cond, leb, List, [], ◌∷◌, drop, Bool, true, false, arith}
 use Rattle.std.proofs.lemmas.List.{drop-map}
+use Rattle.cc_tree.specs.declared.expression.BinaryOperator.TheVariants as b
+use Rattle.cc_tree.specs.Operators.{level}
 use Rattle.cc_table.specs.Sizes.{uses, nests, leaves, takes, receives, adds, least}
 use Rattle.cc_table.specs.declared.sizes.Remains.{Remains}
 use Rattle.cc_table.specs.declared.sizes.Remains.TheVariants.{Nothing, OneValue, OneInput}
 use Rattle.cc_table.specs.declared.symbols.Sort.{Sort}
+use Rattle.cc_table.specs.declared.symbols.Sort.TheVariants as o
 use Rattle.cc_table.specs.declared.symbols.Action.{Action}
 use Rattle.cc_table.specs.declared.symbols.Symbol.{Symbol}
 use Rattle.cc_table.specs.declared.symbols.Symbol.TheVariants.{Non, Act, Back}
-use Rattle.cc_grammar_laws.specs.Heights.{Heights, heights, is_tree, tallest, part_height, left_over, raised, raised_all, least_depth}
-use Rattle.cc_grammar.specs.Depths.{capped, all_capped, acted, passes, passes_all, least_capped}
+use Rattle.cc_grammar_laws.specs.Heights.{Heights, heights, is_tree, tallest, part_height, left_over, raised, least_depth, operator_taken, joined, after_less, name_less, member_less, new_less, after_greater, least_to_come}
+use Rattle.cc_grammar.specs.Depths.{capped, all_capped, acted, passes}
 
 abbrev both_capped : Heights → Heights
 both_capped h = heights (capped h.pending) (all_capped h.stack)
@@ -57,13 +60,107 @@ passes_capped (Back input) h =
     ap (λ q. heights q (drop 1 (all_capped h.stack))) (back_capped (is_tree input) (tallest 1 h.stack) (tallest 1 (all_capped h.stack)) (tallest_capped 1 h.stack))
     ∙ ap (λ q. heights (capped (cond (is_tree input) (tallest 1 h.stack) 0)) q) (drop-map capped 1 h.stack)
 
-all_passed : (more : List Symbol) (h : Heights) → passes_all more (both_capped h) ≡ both_capped (raised_all more h)
-all_passed [] h = refl
-all_passed (symbol ∷ more) h = ap (passes_all more) (passes_capped symbol h) ∙ all_passed more (raised symbol h)
+-- Heights that are the same up to the limit.
+abbrev pub Like : Heights → Heights → Type 0
+Like h k = both_capped h ≡ both_capped k
 
--- The least depth from heights up to the limit is the least depth, up to the limit.
-pub least_is_capped : (more : List Symbol) (hs : List ℕ) → least_capped more (all_capped hs) ≡ capped (least_depth more (heights 0 hs))
-least_is_capped more hs = ap (λ h. tallest 1 h.stack) (all_passed more (heights 0 hs)) ∙ tallest_capped 1 (raised_all more (heights 0 hs)).stack
+capped_twice : (n : ℕ) → capped (capped n) ≡ capped n
+capped_twice n = omega arith
+
+all_twice : (hs : List ℕ) → all_capped (all_capped hs) ≡ all_capped hs
+all_twice [] = refl
+all_twice (one ∷ hs) = ap (λ n. n ∷ all_capped (all_capped hs)) (capped_twice one) ∙ ap (λ ns. capped one ∷ ns) (all_twice hs)
+
+pub capped_like : (h : Heights) → Like (both_capped h) h
+capped_like h = ap (λ n. heights n (all_capped (all_capped h.stack))) (capped_twice h.pending) ∙ ap (heights (capped h.pending)) (all_twice h.stack)
+
+left_like : (what : Remains) (height : ℕ) (hs : List ℕ) → Like (left_over what (capped height) hs) (left_over what height hs)
+left_like Nothing height hs = refl
+left_like OneValue height hs = ap (λ n. heights 0 (n ∷ all_capped hs)) (capped_twice height)
+left_like OneInput height hs = ap (λ n. heights n (all_capped hs)) (capped_twice height)
+
+pub passes_like : (symbol : Symbol) (h : Heights) → Like (passes symbol h) (raised symbol h)
+passes_like (Non sort) h = left_like (leaves sort) (part_height sort h) (drop (takes sort) h.stack)
+passes_like (Act action) h = ap (λ n. heights (capped h.pending) (n ∷ all_capped (drop (uses action) h.stack))) (capped_twice (tallest (uses action) h.stack + nests action))
+passes_like (Back input) h = refl
+
+raised_like : (symbol : Symbol) (h k : Heights) → Like h k → Like (raised symbol h) (raised symbol k)
+raised_like symbol h k e = sym (passes_capped symbol h) ∙ (ap (passes symbol) e ∙ passes_capped symbol k)
+
+pending_like : (h k : Heights) → Like h k → capped h.pending ≡ capped k.pending
+pending_like h k e = ap (λ q. q.pending) e
+
+stack_like : (h k : Heights) → Like h k → all_capped h.stack ≡ all_capped k.stack
+stack_like h k e = ap (λ q. q.stack) e
+
+pub tallest_like : (n : ℕ) (xs ys : List ℕ) → all_capped xs ≡ all_capped ys → capped (tallest n xs) ≡ capped (tallest n ys)
+tallest_like n xs ys e = sym (tallest_capped n xs) ∙ (ap (tallest n) e ∙ tallest_capped n ys)
+
+drop_like : (n : ℕ) (xs ys : List ℕ) → all_capped xs ≡ all_capped ys → all_capped (drop n xs) ≡ all_capped (drop n ys)
+drop_like n xs ys e = sym (drop-map capped n xs) ∙ (ap (drop n) e ∙ drop-map capped n ys)
+
+pub flat_like : (xs ys : List ℕ) → all_capped xs ≡ all_capped ys → Like (heights 0 xs) (heights 0 ys)
+flat_like xs ys e = ap (heights 0) e
+
+pub top_like : (p q x y : ℕ) (xs ys : List ℕ) → capped p ≡ capped q → capped x ≡ capped y → all_capped xs ≡ all_capped ys → Like (heights p (x ∷ xs)) (heights q (y ∷ ys))
+top_like p q x y xs ys d e f = ap (λ n. heights n (capped x ∷ all_capped xs)) d ∙ (ap (λ n. heights (capped q) (n ∷ all_capped xs)) e ∙ ap (λ ns. heights (capped q) (capped y ∷ ns)) f)
+
+-- Heights that are the same up to the limit give least depths that are.
+pub least_like : (more : List Symbol) (h k : Heights) → Like h k → capped (least_depth more h) ≡ capped (least_depth more k)
+least_like [] h k e = tallest_like 1 h.stack k.stack (stack_like h k e)
+least_like (symbol ∷ more) h k e = least_like more (raised symbol h) (raised symbol k) (raised_like symbol h k e)
+
+operator_like : (more : List Symbol) (h k : Heights) → Like h k → capped (operator_taken more h) ≡ capped (operator_taken more k)
+operator_like more h k e =
+    let t : min (tallest 1 h.stack) 257 ≡ min (tallest 1 k.stack) 257 = tallest_like 1 h.stack k.stack (stack_like h k e) in
+    let p : min h.pending 257 ≡ min k.pending 257 = pending_like h k e in
+    least_like more (heights 0 ((max (tallest 1 h.stack) (h.pending + 1) + 1) ∷ drop 1 h.stack)) (heights 0 ((max (tallest 1 k.stack) (k.pending + 1) + 1) ∷ drop 1 k.stack))
+    (top_like 0 0 (max (tallest 1 h.stack) (h.pending + 1) + 1) (max (tallest 1 k.stack) (k.pending + 1) + 1) (drop 1 h.stack) (drop 1 k.stack) refl (omega (arith, t, p)) (drop_like 1 h.stack k.stack (stack_like h k e)))
+
+pub joined_like : (n : ℕ) (more : List Symbol) (h k : Heights) → Like h k → capped (joined n more h) ≡ capped (joined n more k)
+joined_like n (Act action ∷ more) h k e = joined_like n more (raised (Act action) h) (raised (Act action) k) (raised_like (Act action) h k e)
+joined_like n (Non o.SuffixRest ∷ more) h k e = joined_like n more h k e
+joined_like n (Non o.AfterUnary ∷ more) h k e = operator_like more h k e
+joined_like n (Non (o.BinaryRest m) ∷ more) h k e = go (leb m n) (joined_like n more h k e)
+  where
+    go : (test : Bool) → capped (joined n more h) ≡ capped (joined n more k) → capped (cond test (operator_taken more h) (joined n more h)) ≡ capped (cond test (operator_taken more k) (joined n more k))
+    go true deeper = operator_like more h k e
+    go false deeper = deeper
+joined_like n more h k e = least_like more (heights 0 h.stack) (heights 0 k.stack) (flat_like h.stack k.stack (stack_like h k e))
+
+pub less_like : (low bare taken : ℕ) (more : List Symbol) (h k : Heights) → capped low ≡ capped bare → Like h k → capped (after_less low taken more h) ≡ capped (after_less bare taken more k)
+less_like low bare taken more h k f e =
+    let p : min h.pending 257 ≡ min k.pending 257 = pending_like h k e in
+    let l : min low 257 ≡ min bare 257 = f in
+    let drops : all_capped (drop taken h.stack) ≡ all_capped (drop taken k.stack) = drop_like taken h.stack k.stack (stack_like h k e) in
+    let one : min (least_depth more (heights 0 (max low (max 1 h.pending + 2) ∷ drop taken h.stack))) 257 ≡ min (least_depth more (heights 0 (max bare (max 1 k.pending + 2) ∷ drop taken k.stack))) 257 =
+    least_like more (heights 0 (max low (max 1 h.pending + 2) ∷ drop taken h.stack)) (heights 0 (max bare (max 1 k.pending + 2) ∷ drop taken k.stack))
+    (top_like 0 0 (max low (max 1 h.pending + 2)) (max bare (max 1 k.pending + 2)) (drop taken h.stack) (drop taken k.stack) refl (omega (arith, p, l)) drops) in
+    let other : min (joined (level b.Less) more (heights h.pending (low ∷ drop taken h.stack))) 257 ≡ min (joined (level b.Less) more (heights k.pending (bare ∷ drop taken k.stack))) 257 =
+    joined_like (level b.Less) more (heights h.pending (low ∷ drop taken h.stack)) (heights k.pending (bare ∷ drop taken k.stack)) (top_like h.pending k.pending low bare (drop taken h.stack) (drop taken k.stack) p f drops) in
+    omega (arith, one, other)
+
+member_like : (more : List Symbol) (h k : Heights) → Like h k → capped (member_less more h) ≡ capped (member_less more k)
+member_like more h k e =
+    let t : min (tallest 3 (drop 1 h.stack)) 257 ≡ min (tallest 3 (drop 1 k.stack)) 257 = tallest_like 3 (drop 1 h.stack) (drop 1 k.stack) (drop_like 1 h.stack k.stack (stack_like h k e)) in
+    less_like (tallest 3 (drop 1 h.stack) + 1) (tallest 3 (drop 1 k.stack) + 1) 4 more h k (omega (arith, t)) e
+
+greater_like : (more : List Symbol) (xs ys : List ℕ) → all_capped xs ≡ all_capped ys → capped (after_greater more xs) ≡ capped (after_greater more ys)
+greater_like more xs ys e =
+    let one : min (joined (level b.Greater) more (heights 0 xs)) 257 ≡ min (joined (level b.Greater) more (heights 0 ys)) 257 = joined_like (level b.Greater) more (heights 0 xs) (heights 0 ys) (flat_like xs ys e) in
+    let other : min (joined (level b.ShiftRight) more (heights 0 xs)) 257 ≡ min (joined (level b.ShiftRight) more (heights 0 ys)) 257 = joined_like (level b.ShiftRight) more (heights 0 xs) (heights 0 ys) (flat_like xs ys e) in
+    omega (arith, one, other)
+
+pub come_like : (more : List Symbol) (h k : Heights) → Like h k → capped (least_to_come more h) ≡ capped (least_to_come more k)
+come_like [] h k e = tallest_like 1 h.stack k.stack (stack_like h k e)
+come_like (Non o.GreaterEnd ∷ more) h k e = greater_like more (drop 1 h.stack) (drop 1 k.stack) (drop_like 1 h.stack k.stack (stack_like h k e))
+come_like (Non o.AfterNameLess ∷ more) h k e = less_like 1 1 2 more (heights 0 h.stack) (heights 0 k.stack) refl (flat_like h.stack k.stack (stack_like h k e))
+come_like (Non o.NameTypes ∷ more) h k e = less_like 1 1 2 more h k refl e
+come_like (Non o.AfterMemberLess ∷ more) h k e = member_like more (heights 0 h.stack) (heights 0 k.stack) (flat_like h.stack k.stack (stack_like h k e))
+come_like (Non o.MemberTypes ∷ more) h k e = member_like more h k e
+come_like (Non o.AfterNewLess ∷ more) h k e = less_like 2 2 3 more (heights 0 h.stack) (heights 0 k.stack) refl (flat_like h.stack k.stack (stack_like h k e))
+come_like (Non o.NewTypes ∷ more) h k e = less_like 2 2 3 more h k refl e
+come_like (symbol ∷ more) h k e = come_like more (raised symbol h) (raised symbol k) (raised_like symbol h k e)
 
 -- Heights are taken off one by one.
 pub taken_tallest : (left h : ℕ) (hs new : List ℕ) → 0 < left → hs ≡ h ∷ new → tallest left hs ≡ max h (tallest (left - 1) new)

@@ -7,14 +7,14 @@ use Rattle.cc_pushdown.specs.declared.value.Value.{Value}
 use Rattle.cc_table.specs.declared.symbols.Input.TheVariants as input
 use Rattle.cc_pushdown.specs.Machine.{Fed, fed, value_of, feed, Config, At, Bad, Done, Comes, start, here}
 use Rattle.cc_grammar_laws.specs.Kinds.{AllFed, Fits}
-use Rattle.cc_grammar_laws.specs.Heights.{height, heights, tallest, least_depth}
+use Rattle.cc_grammar_laws.specs.Heights.{height, heights, tallest, least_to_come}
 use Rattle.cc_grammar_laws.proofs.KindsKept.{comes_typed}
 use Rattle.cc_grammar_laws.proofs.HeightLaws.{tokens_are_flat}
 use Rattle.cc_grammar.specs.declared.reading.Sorted.{Sorted}
 use Rattle.cc_grammar.specs.Turns.{Feeds, Finishes}
-use Rattle.cc_grammar.specs.Depths.{depth_limit, capped, measures, least_capped, Typed}
+use Rattle.cc_grammar.specs.Depths.{depth_limit, capped, measures, Typed}
 use Rattle.cc_grammar.specs.Reading.{unit_part, classified, read, Refused, TooDeep, top_height}
-use Rattle.cc_grammar.proofs.Capped.{tallest_capped, least_is_capped}
+use Rattle.cc_grammar.proofs.Capped.{tallest_capped, capped_like, come_like}
 use Rattle.cc_grammar.proofs.Going.{then}
 
 -- what holds between tokens, whatever follows
@@ -109,9 +109,10 @@ token_carries x kept e = (sym (ap (λ q. capped (height q)) e ∙ ap capped (tok
 pub begun_measured : (vs : List Value) (hs : List ℕ) → vs ≡ [] → hs ≡ [] → hs ≡ measures vs
 begun_measured vs hs e f = f ∙ sym (ap measures e)
 
-pub too_deep : (tokens : List Sorted) (i : ℕ) (st : List Symbol) (vs : List Value) (hs : List ℕ) (least : ℕ) → i < length tokens → Reached tokens st vs (i + 1) → hs ≡ measures vs → least ≡ least_capped st hs → depth_limit < least → TooDeep tokens i
+pub too_deep : (tokens : List Sorted) (i : ℕ) (st : List Symbol) (vs : List Value) (hs : List ℕ) (least : ℕ) → i < length tokens → Reached tokens st vs (i + 1) → hs ≡ measures vs → least ≡ capped (least_to_come st (heights 0 hs)) → depth_limit < least → TooDeep tokens i
 too_deep tokens i st vs hs least lt g m e over =
-    let k : least ≡ min (least_depth st (heights 0 (map height vs))) 257 = e ∙ (ap (least_capped st) m ∙ least_is_capped st (map height vs)) in
+    let k : least ≡ min (least_to_come st (heights 0 (map height vs))) 257 =
+    e ∙ (ap (λ ns. capped (least_to_come st (heights 0 ns))) m ∙ come_like st (heights 0 (measures vs)) (heights 0 (map height vs)) (capped_like (heights 0 (map height vs)))) in
     record { within = lt; symbols = st; values = vs; taken = g; deep = omega (arith, k, over) }
 
 topmost : (vs : List Value) (hs : List ℕ) (top : ℕ) → hs ≡ measures vs → top ≡ tallest 1 hs → top ≡ min (top_height vs) 257

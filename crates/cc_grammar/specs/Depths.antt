@@ -1,5 +1,5 @@
 -- Heights up to the limit of depth: what is deeper than the limit counts as one more than it.
-use Rattle.std.specs.Prelude.{◌≡◌, ◌+◌, ℕ, min, List, [], ◌∷◌, map, drop}
+use Rattle.std.specs.Prelude.{◌≡◌, ◌+◌, ℕ, min, List, [], ◌∷◌, map, drop, take, reverse}
 use Rattle.cc_table.specs.Sizes.{uses, nests, leaves, takes}
 use Rattle.cc_table.specs.declared.symbols.Action.{Action}
 use Rattle.cc_table.specs.declared.symbols.Symbol.{Symbol}
@@ -54,13 +54,9 @@ passes (Non sort) h = left_over (leaves sort) (capped (part_height sort h)) (dro
 passes (Act action) h = heights h.pending (acted action h.stack)
 passes (Back input) h = raised (Back input) h
 
-abbrev pub passes_all : List Symbol → Heights → Heights
-passes_all [] h = h
-passes_all (symbol ∷ more) h = passes_all more (passes symbol h)
-
--- the least depth of the trees that can still come
-abbrev pub least_capped : List Symbol → List ℕ → ℕ
-least_capped more hs = tallest 1 (passes_all more (heights 0 hs)).stack
+-- the lowest symbols, so many, from the topmost of them; the list has them from the bottom
+abbrev pub from_top : ℕ → List Symbol → List Symbol
+from_top count items = reverse (take count items)
 
 -- The values, and those of the inputs, are of the kinds that are expected.
 abbrev pub Typed : List Symbol → List Value → List Fed → Type 0

@@ -3,3 +3,4 @@ pub mod Turns
 pub mod Depths
 pub mod Reading
 pub mod Parse
+pub mod Coming

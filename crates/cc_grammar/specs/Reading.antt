@@ -7,7 +7,7 @@ use Rattle.cc_table.specs.declared.symbols.Symbol.{Symbol}
 use Rattle.cc_table.specs.declared.symbols.Symbol.TheVariants.{Non, Act}
 use Rattle.cc_pushdown.specs.declared.value.Value.{Value}
 use Rattle.cc_pushdown.specs.Machine.{Fed, feed, At, Bad, Done, Comes, start}
-use Rattle.cc_grammar_laws.specs.Heights.{height, heights, tallest, least_depth}
+use Rattle.cc_grammar_laws.specs.Heights.{height, heights, tallest, least_to_come}
 use Rattle.cc_grammar.specs.declared.reading.Reading.{Reading}
 use Rattle.cc_grammar.specs.declared.reading.Reading.TheVariants as r
 use Rattle.cc_grammar.specs.declared.reading.Sorted.{Sorted}
@@ -37,7 +37,7 @@ pub record TooDeep (tokens : List Sorted) (place : ℕ) : Type 0 where
   pub symbols : List Symbol
   pub values : List Value
   pub taken : (fs : List Fed) → Comes (At unit_part [] (read (take (place + 1) tokens) ++ fs)) (At symbols values fs)
-  pub deep : depth_limit < least_depth symbols (heights 0 (map height values))
+  pub deep : depth_limit < least_to_come symbols (heights 0 (map height values))
 
 -- how high the topmost value is
 abbrev pub top_height : List Value → ℕ

@@ -1,5 +1,5 @@
 // How deep the trees to come are at least, up to just over the limit.
-ghost use Rattle.std.specs.Prelude.{◌≡◌, ◌+◌, IfOk, OnOk, drop};
+ghost use Rattle.std.specs.Prelude.{◌≡◌, ◌+◌, ◌≤◌, IfOk, OnOk, drop, length};
 ghost use Rattle.cc_table.specs.Sizes as sizes;
 ghost use Rattle.cc_table.specs.declared.symbols.Symbol.TheVariants.{Non};
 ghost use Rattle.cc_grammar_laws.specs.Heights as law;
@@ -15,14 +15,14 @@ use std::alloc::{AllocError, Global};
 pub const DEPTH_LIMIT: u32 = 256;
 
 /// A height, or just over the limit.
-fn capped(height: u32) -> u32
+pub fn capped(height: u32) -> u32
     ensures { result ≡ spec.capped height }
 {
     height.min(DEPTH_LIMIT + 1)
 }
 
 /// A greater height, or just over the limit.
-fn raised(height: u32, by: u32) -> u32
+pub fn raised(height: u32, by: u32) -> u32
     ensures { result ≡ spec.capped (height + by) }
 {
     capped(capped(height) + capped(by))
@@ -92,7 +92,7 @@ fn pass_part(sort: Sort, waiting: u32, heights: &mut Stack<u32>) -> Result<u32, 
 }
 
 /// The heights after a symbol. What waits in the input then is the answer.
-fn pass(symbol: Symbol, waiting: u32, heights: &mut Stack<u32>) -> Result<u32, AllocError>
+pub fn pass(symbol: Symbol, waiting: u32, heights: &mut Stack<u32>) -> Result<u32, AllocError>
     ensures { IfOk result (λ left. law.heights left heights.new ≡ spec.passes symbol (law.heights waiting heights.old)) }
 {
     match symbol {
@@ -109,7 +109,7 @@ fn pass(symbol: Symbol, waiting: u32, heights: &mut Stack<u32>) -> Result<u32, A
 }
 
 /// The same heights.
-fn copied(alloc: Global, heights: &Stack<u32>) -> Result<Stack<u32>, AllocError>
+pub fn copied(alloc: Global, heights: &Stack<u32>) -> Result<Stack<u32>, AllocError>
     ensures { IfOk result (λ copy. copy ≡ heights.now) }
 {
     let items = heights.from_bottom();
@@ -122,21 +122,21 @@ fn copied(alloc: Global, heights: &Stack<u32>) -> Result<Stack<u32>, AllocError>
     Ok(copy)
 }
 
-/// The least depth of the trees that can still come.
+/// The least depth of the trees that the lowest symbols, so many, can still leave.
 pub fn least_depth(
-    alloc: Global,
-    symbols: &Stack<Symbol>,
-    heights: &Stack<u32>,
+    items: &[Symbol],
+    count: usize,
+    pending: u32,
+    heights: &mut Stack<u32>,
 ) -> Result<u32, AllocError>
-    ensures { IfOk result (λ least. least ≡ spec.least_capped symbols.now heights.now) }
+    requires { count ≤ length items.now }
+    ensures { IfOk result (λ least. least ≡ spec.capped (law.least_depth (spec.from_top count items.now) (law.heights pending heights.old))) }
 {
-    let items = symbols.from_bottom();
-    let mut stack = copied(alloc, heights)?;
-    let mut waiting = 0;
-    let mut left = items.len();
+    let mut waiting = pending;
+    let mut left = count;
     while left > 0 {
         left -= 1;
-        waiting = pass(items[left], waiting, &mut stack)?;
+        waiting = pass(items[left], waiting, heights)?;
     }
-    Ok(take_tallest(1, &mut stack))
+    Ok(capped(take_tallest(1, heights)))
 }

@@ -3,6 +3,7 @@
 
 pub mod binary;
 mod choice;
+mod coming;
 mod depth;
 mod feeding;
 mod parser;

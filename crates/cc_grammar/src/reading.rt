@@ -3,7 +3,8 @@ ghost use Rattle.std.specs.Prelude.{◌≡◌, [], IfOk, OnOk};
 ghost use Rattle.cc_grammar_laws.specs.Kinds.{AllFed};
 ghost use Rattle.cc_grammar.specs.Reading as spec;
 
-use crate::depth::{DEPTH_LIMIT, least_depth, take_tallest};
+use crate::coming::least_to_come;
+use crate::depth::{DEPTH_LIMIT, take_tallest};
 use crate::feeding::{feed, finish};
 use crate::pending::Pending;
 use crate::token_value::value;
@@ -62,7 +63,7 @@ pub fn read(alloc: Global, tokens: &[Sorted<'_>]) -> Result<Reading, AllocError>
         if !feed(alloc, first, &mut symbols, &mut values, &mut heights)? {
             return Ok(Reading::Refused(i));
         }
-        let least = least_depth(alloc, &symbols, &heights)?;
+        let least = least_to_come(alloc, &symbols, &heights)?;
         if least > DEPTH_LIMIT {
             return Ok(Reading::TooDeep(i));
         }

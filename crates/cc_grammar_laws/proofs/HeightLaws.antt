@@ -20,11 +20,11 @@ use Rattle.cc_pushdown.specs.declared.value.Value.{Value}
 use Rattle.cc_pushdown.specs.declared.value.Value.TheVariants as v
 use Rattle.cc_pushdown.specs.Machine.{feed, value_of, Config, Done, step, Comes, here, on, start}
 use Rattle.cc_grammar_laws.specs.Kinds.{Has, AllFed, input_kind}
-use Rattle.cc_grammar_laws.specs.Heights.{height, waiting, heights, heights_of, least_depth}
+use Rattle.cc_grammar_laws.specs.Heights.{height, waiting, heights, heights_of, least_to_come}
 use Rattle.cc_grammar_laws.specs.HeightLaws.{StackFits, ActionIsReady, LeastIsLeast, DeepAreDeep, HeightsAreKept, TokensAreFlat, DepthIsHeight}
 use Rattle.cc_grammar_laws.proofs.KindsKept.{Typed, comes_typed, is_ready}
 use Rattle.cc_grammar_laws.proofs.HeightsOfActions.{heights_kept}
-use Rattle.cc_grammar_laws.proofs.LeastKept.{least_to_end}
+use Rattle.cc_grammar_laws.proofs.LeastToCome.{least_comes}
 use Rattle.cc_grammar_laws.proofs.CompleteUnit.{units_are_read}
 
 -- The value of a token is of its terminal symbol's kind.
@@ -72,7 +72,7 @@ goes_on {c} {d} (on p) here vs h = goes_on p (subst (λ x. Comes (step c) x) (ap
 
 pub least_is_least : LeastIsLeast
 least_is_least names tokens more vs fs tree p q =
-    let l : least_depth more (heights_of vs fs) ≤ max (unit_depth tree) 0 = least_to_end (goes_on p q (v.Unit tree ∷ []) refl) (stack_fits names tokens more vs fs p) (v.Unit tree ∷ []) refl in
+    let l : least_to_come more (heights_of vs fs) ≤ max (unit_depth tree) 0 = least_comes more vs fs (stack_fits names tokens more vs fs p) (v.Unit tree ∷ []) (goes_on p q (v.Unit tree ∷ []) refl) in
     omega (arith, l)
 
 nothing_waits : (names : Names) (tokens : List Token) → waiting (map feed (classify names tokens)) ≡ 0
@@ -81,9 +81,9 @@ nothing_waits names (token ∷ tokens) = refl
 
 pub deep_are_deep : DeepAreDeep
 deep_are_deep names tokens rest more vs tree limit p deep spelled =
-    let l : least_depth more (heights_of vs (map feed (classify names rest))) ≤ unit_depth tree =
+    let l : least_to_come more (heights_of vs (map feed (classify names rest))) ≤ unit_depth tree =
     least_is_least names (tokens ++ rest) more vs (map feed (classify names rest)) tree p (units_are_read names (tokens ++ rest) tree spelled) in
-    let e : least_depth more (heights_of vs (map feed (classify names rest))) ≡ least_depth more (heights 0 (map height vs)) = ap (λ n. least_depth more (heights n (map height vs))) (nothing_waits names rest) in
+    let e : least_to_come more (heights_of vs (map feed (classify names rest))) ≡ least_to_come more (heights 0 (map height vs)) = ap (λ n. least_to_come more (heights n (map height vs))) (nothing_waits names rest) in
     omega (arith, l, e, deep)
 
 pub heights_are_kept : HeightsAreKept

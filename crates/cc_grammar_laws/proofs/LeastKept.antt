@@ -25,7 +25,7 @@ use Rattle.cc_grammar_laws.specs.Kinds.{Kind, Has, Holds, taken_kinds, given_kin
 use Rattle.cc_grammar_laws.specs.Heights.{height, is_tree, waiting, Heights, heights, heights_of, tallest, raised, raised_all, least_depth}
 use Rattle.cc_grammar_laws.proofs.KindsKept.{both, Typed, Opened, sort_opened, step_typed, is_ready}
 use Rattle.cc_grammar_laws.proofs.LeastOfParts.{Term, constant, waits, place, is_flat, shifted_term, shifted, first_place, places, is_tree_pattern, pending_term, sketch, taken_sketch, pattern_leaves, patterns_leave, rows_leave, otherwise_leaves, all_leave}
-use Rattle.cc_grammar_laws.proofs.LeastSketched.{AllNoHigher, no_higher_same, depth_grows, raised-append, measured, measure, real_stack, real, leaves_less}
+use Rattle.cc_grammar_laws.proofs.LeastSketched.{AllNoHigher, no_higher_same, through, same_heights, all_grow, depth_grows, raised-append, measured, measure, real_stack, real, leaves_less}
 use Rattle.cc_grammar_laws.proofs.HeightsOfInputs.{flat_height, has_some, flat_input, same_tree, seen_tree}
 use Rattle.cc_grammar_laws.proofs.HeightsOfActions.{heights_kept}
 
@@ -58,20 +58,18 @@ placed p (kind ∷ kinds) low (value ∷ vs) h =
     ap (λ n. n ∷ xs) (sym (first_is p kind value vs (is_flat kind) refl h.0))
     ∙ ap (λ ns. measure p (x ∷ xs) (first_place (is_flat kind)) ∷ ns) (placed p kinds low vs h.1 ∙ ap (λ ns. ns ++ rest) (sym (shifted_stack p x xs (places kinds))))
 
--- A part in the place of its sort: what can still come is no less deep.
-part_no_less : (sort : Sort) (what : Take) (part more : List Symbol) (brings : Bool) → pattern_leaves sort what part brings ≡ true → (p : ℕ) (xs rest : List ℕ) → xs ≡ real_stack p xs rest (places (taken_kinds sort))
+-- A part in the place of its sort leaves no less.
+part_higher : (sort : Sort) (what : Take) (part : List Symbol) (brings : Bool) → pattern_leaves sort what part brings ≡ true → (p : ℕ) (xs rest : List ℕ) → xs ≡ real_stack p xs rest (places (taken_kinds sort))
     → (h : Heights) → AllNoHigher (real p xs rest (taken_sketch what brings (places (taken_kinds sort)))) h
-    → least_depth (Non sort ∷ more) (heights (measure p xs (pending_term brings)) xs) ≤ least_depth (part ++ more) h
-part_no_less sort what part more brings ok p xs rest e h g =
+    → AllNoHigher (raised (Non sort) (heights (measure p xs (pending_term brings)) xs)) (raised_all part h)
+part_higher sort what part brings ok p xs rest e h g =
     let stack : List (List Term) = places (taken_kinds sort) in
     let one = sketch (pending_term brings) stack in
     let other = taken_sketch what brings stack in
     let less : AllNoHigher (raised (Non sort) (real p xs rest one)) (raised_all part (real p xs rest other)) = leaves_less p xs rest (Non sort) part one other ok in
-    let first : least_depth more (raised (Non sort) (real p xs rest one)) ≤ least_depth more (raised_all part (real p xs rest other)) = depth_grows more (raised (Non sort) (real p xs rest one)) (raised_all part (real p xs rest other)) less in
-    let second : least_depth (part ++ more) (real p xs rest other) ≤ least_depth (part ++ more) h = depth_grows (part ++ more) (real p xs rest other) h g in
-    let middle : least_depth (part ++ more) (real p xs rest other) ≡ least_depth more (raised_all part (real p xs rest other)) = ap (λ k. tallest 1 k.stack) (raised-append part more (real p xs rest other)) in
-    let begin : least_depth (Non sort ∷ more) (heights (measure p xs (pending_term brings)) xs) ≡ least_depth more (raised (Non sort) (real p xs rest one)) = ap (λ ns. least_depth (Non sort ∷ more) (heights (measure p xs (pending_term brings)) ns)) e in
-    omega (arith, first, second, middle, begin)
+    let begin : raised (Non sort) (heights (measure p xs (pending_term brings)) xs) ≡ raised (Non sort) (real p xs rest one) = ap (λ ns. raised (Non sort) (heights (measure p xs (pending_term brings)) ns)) e in
+    subst (λ k. AllNoHigher k (raised_all part h)) (sym begin)
+    (through (raised (Non sort) (real p xs rest one)) (raised_all part (real p xs rest other)) (raised_all part h) less (all_grow part (real p xs rest other) h g))
 
 -- What a row leaves.
 patterns_one : (sort : Sort) (what : Take) (part : List Symbol) (patterns : List Pattern) (input : Input) → patterns_leave sort what part patterns ≡ true → accepts_one patterns input ≡ true → pattern_leaves sort what part (is_tree input) ≡ true
@@ -144,92 +142,124 @@ NoLess n (At more vs fs) = n ≤ least_of (At more vs fs)
 NoLess n (Bad fs) = Unit {0}
 NoLess n (Done vs) = n ≤ tallest 1 (map height vs)
 
+-- What a symbol makes of the heights is no higher than what its step leaves, above the other symbols, unless that refuses.
+abbrev pub Goes : Heights → List Symbol → Config → Type 0
+Goes low more (At now vs fs) = (part : List Symbol) × (now ≡ part ++ more) × AllNoHigher low (raised_all part (heights_of vs fs))
+Goes low more (Bad fs) = Unit {0}
+Goes low more (Done vs) = ⊥
+
 pending_is : (p : ℕ) (xs : List ℕ) (brings : Bool) (n : ℕ) → p ≡ cond brings n 0 → p ≡ measure p xs (pending_term brings)
 pending_is p xs true n e = omega arith
 pending_is p xs false n e = e
 
-lack_no_less : (part : Option (List Symbol)) (sort : Sort) (more : List Symbol) (vs : List Value) (fs : List Fed) → otherwise_leaves sort part ≡ true → Opened (taken_kinds sort) (given_kinds sort) more vs
-    → NoLess (least_depth (Non sort ∷ more) (heights_of vs fs)) (lack part more vs fs)
-lack_no_less None sort more vs fs ok found = tt
-lack_no_less (Some part) sort more vs fs ok found =
+lack_goes : (part : Option (List Symbol)) (sort : Sort) (more : List Symbol) (vs : List Value) (fs : List Fed) → otherwise_leaves sort part ≡ true → Opened (taken_kinds sort) (given_kinds sort) more vs
+    → Goes (raised (Non sort) (heights_of vs fs)) more (lack part more vs fs)
+lack_goes None sort more vs fs ok found = tt
+lack_goes (Some part) sort more vs fs ok found =
     let p : ℕ = waiting fs in
     let xs : List ℕ = map height vs in
     let rest : List ℕ = drop (length (taken_kinds sort)) xs in
     let e : xs ≡ real_stack p xs rest (places (taken_kinds sort)) = placed p (taken_kinds sort) found.0 vs found.1 in
-    let q : p ≡ max (p + 0) 0 = omega arith in
-    subst (λ n. least_depth (Non sort ∷ more) (heights n xs) ≤ least_depth (part ++ more) (heights p xs)) (sym q)
-    (part_no_less sort take.Look part more true ok p xs rest e (heights p xs)
-    (subst (λ ns. AllNoHigher (heights (max (p + 0) 0) ns) (heights p xs)) e (omega arith, no_higher_same xs)))
+    let q : p ≡ max (p + 0) 0 = omega arith in (
+      part,
+      refl,
+      subst (λ n. AllNoHigher (raised (Non sort) (heights n xs)) (raised_all part (heights p xs))) (sym q)
+          (part_higher sort take.Look part true ok p xs rest e (heights p xs)
+          (subst (λ ns. AllNoHigher (heights (max (p + 0) 0) ns) (heights p xs)) e (omega arith, no_higher_same xs))),
+    )
 
 value_height : (input : Input) (value : Value) (vs : List Value) (brings : Bool) → is_tree input ≡ brings → Has (input_kind input) (value ∷ vs) → cond brings (height value) 0 ≡ height value
 value_height input value vs true e h = refl
 value_height input value vs false e h = sym (flat_height (input_kind input) (value ∷ vs) (flat_input input e) h)
 
-put_no_less : (of : Option Taken) (sort : Sort) (more : List Symbol) (vs : List Value) (input : Input) (value : Value) (fs : List Fed)
+put_goes : (of : Option Taken) (sort : Sort) (more : List Symbol) (vs : List Value) (input : Input) (value : Value) (fs : List Fed)
     → TakenLeaves sort (is_tree input) of → Opened (taken_kinds sort) (given_kinds sort) more vs → Has (input_kind input) (value ∷ vs)
-    → NoLess (least_depth (Non sort ∷ more) (heights_of vs (fed input value ∷ fs))) (put of sort more vs input value fs)
-put_no_less None sort more vs input value fs ok found has = lack_no_less (otherwise sort) sort more vs (fed input value ∷ fs) (both (rows_leave sort (rows sort)) (otherwise_leaves sort (otherwise sort)) (all_leave sort)).1 found
-put_no_less (Some (looks part)) sort more vs input value fs ok found has =
+    → Goes (raised (Non sort) (heights_of vs (fed input value ∷ fs))) more (put of sort more vs input value fs)
+put_goes None sort more vs input value fs ok found has = lack_goes (otherwise sort) sort more vs (fed input value ∷ fs) (both (rows_leave sort (rows sort)) (otherwise_leaves sort (otherwise sort)) (all_leave sort)).1 found
+put_goes (Some (looks part)) sort more vs input value fs ok found has =
     let p : ℕ = cond (is_tree input) (height value) 0 in
     let xs : List ℕ = map height vs in
     let rest : List ℕ = drop (length (taken_kinds sort)) xs in
     let e : xs ≡ real_stack p xs rest (places (taken_kinds sort)) = placed p (taken_kinds sort) found.0 vs found.1 in
-    let q : p ≡ measure p xs (pending_term (is_tree input)) = pending_is p xs (is_tree input) (height value) refl in
-    subst (λ n. least_depth (Non sort ∷ more) (heights n xs) ≤ least_depth (part ++ more) (heights p xs)) (sym q)
-    (part_no_less sort take.Look part more (is_tree input) ok p xs rest e (heights p xs)
-    (subst (λ n. AllNoHigher (heights n (real_stack p xs rest (places (taken_kinds sort)))) (heights p xs)) q
-    (subst (λ ns. AllNoHigher (heights p ns) (heights p xs)) e (le_refl p, no_higher_same xs))))
-put_no_less (Some (drops part)) sort more vs input value fs ok found has =
+    let q : p ≡ measure p xs (pending_term (is_tree input)) = pending_is p xs (is_tree input) (height value) refl in (
+      part,
+      refl,
+      subst (λ n. AllNoHigher (raised (Non sort) (heights n xs)) (raised_all part (heights p xs))) (sym q)
+          (part_higher sort take.Look part (is_tree input) ok p xs rest e (heights p xs)
+          (subst (λ n. AllNoHigher (heights n (real_stack p xs rest (places (taken_kinds sort)))) (heights p xs)) q
+          (subst (λ ns. AllNoHigher (heights p ns) (heights p xs)) e (le_refl p, no_higher_same xs)))),
+    )
+put_goes (Some (drops part)) sort more vs input value fs ok found has =
     let p : ℕ = cond (is_tree input) (height value) 0 in
     let xs : List ℕ = map height vs in
     let rest : List ℕ = drop (length (taken_kinds sort)) xs in
     let e : xs ≡ real_stack p xs rest (places (taken_kinds sort)) = placed p (taken_kinds sort) found.0 vs found.1 in
-    let q : p ≡ measure p xs (pending_term (is_tree input)) = pending_is p xs (is_tree input) (height value) refl in
-    subst (λ n. least_depth (Non sort ∷ more) (heights n xs) ≤ least_depth (part ++ more) (heights_of vs fs)) (sym q)
-    (part_no_less sort take.Drop part more (is_tree input) ok p xs rest e (heights_of vs fs)
-    (subst (λ ns. AllNoHigher (heights 0 ns) (heights_of vs fs)) e (zero-le, no_higher_same xs)))
-put_no_less (Some (keeps part)) sort more vs input value fs ok found has =
+    let q : p ≡ measure p xs (pending_term (is_tree input)) = pending_is p xs (is_tree input) (height value) refl in (
+      part,
+      refl,
+      subst (λ n. AllNoHigher (raised (Non sort) (heights n xs)) (raised_all part (heights_of vs fs))) (sym q)
+          (part_higher sort take.Drop part (is_tree input) ok p xs rest e (heights_of vs fs)
+          (subst (λ ns. AllNoHigher (heights 0 ns) (heights_of vs fs)) e (zero-le, no_higher_same xs))),
+    )
+put_goes (Some (keeps part)) sort more vs input value fs ok found has =
     let p : ℕ = cond (is_tree input) (height value) 0 in
     let xs : List ℕ = map height vs in
     let rest : List ℕ = drop (length (taken_kinds sort)) xs in
     let e : xs ≡ real_stack p xs rest (places (taken_kinds sort)) = placed p (taken_kinds sort) found.0 vs found.1 in
     let q : p ≡ measure p xs (pending_term (is_tree input)) = pending_is p xs (is_tree input) (height value) refl in
     let r : p ≡ height value = value_height input value vs (is_tree input) refl has in
-    let m : measure p xs (pending_term (is_tree input)) ≤ height value = omega (arith, q, r) in
-    subst (λ n. least_depth (Non sort ∷ more) (heights n xs) ≤ least_depth (part ++ more) (heights_of (value ∷ vs) fs)) (sym q)
-    (part_no_less sort take.Keep part more (is_tree input) ok p xs rest e (heights_of (value ∷ vs) fs)
-    (subst (λ ns. AllNoHigher (heights 0 (measure p xs (pending_term (is_tree input)) ∷ ns)) (heights_of (value ∷ vs) fs)) e (zero-le, (m, no_higher_same xs))))
-put_no_less (Some (joins operator part)) sort more vs input value fs ok found has =
+    let m : measure p xs (pending_term (is_tree input)) ≤ height value = omega (arith, q, r) in (
+      part,
+      refl,
+      subst (λ n. AllNoHigher (raised (Non sort) (heights n xs)) (raised_all part (heights_of (value ∷ vs) fs))) (sym q)
+          (part_higher sort take.Keep part (is_tree input) ok p xs rest e (heights_of (value ∷ vs) fs)
+          (subst (λ ns. AllNoHigher (heights 0 (measure p xs (pending_term (is_tree input)) ∷ ns)) (heights_of (value ∷ vs) fs)) e (zero-le, (m, no_higher_same xs)))),
+    )
+put_goes (Some (joins operator part)) sort more vs input value fs ok found has =
     let p : ℕ = cond (is_tree input) (height value) 0 in
     let xs : List ℕ = map height vs in
     let rest : List ℕ = drop (length (taken_kinds sort)) xs in
     let e : xs ≡ real_stack p xs rest (places (taken_kinds sort)) = placed p (taken_kinds sort) found.0 vs found.1 in
-    let q : p ≡ 0 = ap (λ b. cond b (height value) 0) ok.1 in
-    subst (λ n. least_depth (Non sort ∷ more) (heights n xs) ≤ least_depth (part ++ more) (heights_of (v.Operator operator ∷ vs) fs)) (sym q)
-    (part_no_less sort take.Keep part more false ok.0 p xs rest e (heights_of (v.Operator operator ∷ vs) fs)
-    (subst (λ ns. AllNoHigher (heights 0 (0 ∷ ns)) (heights_of (v.Operator operator ∷ vs) fs)) e (zero-le, (le_refl 0, no_higher_same xs))))
+    let q : p ≡ 0 = ap (λ b. cond b (height value) 0) ok.1 in (
+      part,
+      refl,
+      subst (λ n. AllNoHigher (raised (Non sort) (heights n xs)) (raised_all part (heights_of (v.Operator operator ∷ vs) fs))) (sym q)
+          (part_higher sort take.Keep part false ok.0 p xs rest e (heights_of (v.Operator operator ∷ vs) fs)
+          (subst (λ ns. AllNoHigher (heights 0 (0 ∷ ns)) (heights_of (v.Operator operator ∷ vs) fs)) e (zero-le, (le_refl 0, no_higher_same xs)))),
+    )
 
 back_heights : (input : Input) (vs : List Value) (fs : List Fed) → raised (Back input) (heights_of vs fs) ≡ heights_of (below vs) (fed input (top vs) ∷ fs)
 back_heights input [] fs = refl
 back_heights input (value ∷ vs) fs = ap (λ n. heights (cond (is_tree input) n 0) (map height vs)) (let e : max (height value) 0 ≡ height value = omega arith in e)
 
+pub step_goes : (symbol : Symbol) (more : List Symbol) (vs : List Value) (fs : List Fed) → Typed (At (symbol ∷ more) vs fs) → Goes (raised symbol (heights_of vs fs)) more (step (At (symbol ∷ more) vs fs))
+step_goes (Act action) more vs fs h =
+    ([], refl, subst (λ stack. AllNoHigher (heights (waiting fs) stack) (heights_of (build action vs) fs)) (heights_kept action vs (is_ready action more vs h.0)) (same_heights (heights_of (build action vs) fs)))
+step_goes (Back input) more vs fs h =
+    ([], refl, subst (λ k. AllNoHigher k (heights_of (below vs) (fed input (top vs) ∷ fs))) (sym (back_heights input vs fs)) (same_heights (heights_of (below vs) (fed input (top vs) ∷ fs))))
+step_goes (Non sort) more vs [] h = lack_goes (otherwise sort) sort more vs [] (both (rows_leave sort (rows sort)) (otherwise_leaves sort (otherwise sort)) (all_leave sort)).1 (sort_opened sort more vs h.0)
+step_goes (Non sort) more vs (fed input value ∷ fs) h =
+    put_goes (begins sort (seen sort vs input value)) sort more vs input value fs
+    (subst (λ brings. TakenLeaves sort brings (begins sort (seen sort vs input value))) (seen_tree sort vs input value) (begins_leave sort (seen sort vs input value)))
+    (sort_opened sort more vs h.0) (h.1.0 vs)
+
+goes_no_less : (low : Heights) (more : List Symbol) (c : Config) → Goes low more c → NoLess (least_depth more low) c
+goes_no_less low more (At now vs fs) g =
+    let grown : least_depth more low ≤ least_depth more (raised_all g.0 (heights_of vs fs)) = depth_grows more low (raised_all g.0 (heights_of vs fs)) g.2 in
+    let same : least_depth (g.0 ++ more) (heights_of vs fs) ≡ least_depth more (raised_all g.0 (heights_of vs fs)) = ap (λ k. tallest 1 k.stack) (raised-append g.0 more (heights_of vs fs)) in
+    subst (λ n. least_depth more low ≤ least_depth n (heights_of vs fs)) (sym g.1) (omega (arith, grown, same))
+goes_no_less low more (Bad fs) g = tt
+goes_no_less low more (Done vs) g = absurd g
+
 pub step_no_less : (c : Config) → Typed c → NoLess (least_of c) (step c)
 step_no_less (At [] vs []) h = le_refl (tallest 1 (map height vs))
 step_no_less (At [] vs (one ∷ fs)) h = tt
-step_no_less (At (Act action ∷ more) vs fs) h =
-    subst (λ stack. least_depth more (heights (waiting fs) stack) ≤ least_depth more (heights_of (build action vs) fs)) (heights_kept action vs (is_ready action more vs h.0)) (le_refl (least_depth more (heights_of (build action vs) fs)))
-step_no_less (At (Back input ∷ more) vs fs) h =
-    subst (λ k. least_depth more k ≤ least_depth more (heights_of (below vs) (fed input (top vs) ∷ fs))) (sym (back_heights input vs fs)) (le_refl (least_depth more (heights_of (below vs) (fed input (top vs) ∷ fs))))
-step_no_less (At (Non sort ∷ more) vs []) h = lack_no_less (otherwise sort) sort more vs [] (both (rows_leave sort (rows sort)) (otherwise_leaves sort (otherwise sort)) (all_leave sort)).1 (sort_opened sort more vs h.0)
-step_no_less (At (Non sort ∷ more) vs (fed input value ∷ fs)) h =
-    put_no_less (begins sort (seen sort vs input value)) sort more vs input value fs
-    (subst (λ brings. TakenLeaves sort brings (begins sort (seen sort vs input value))) (seen_tree sort vs input value) (begins_leave sort (seen sort vs input value)))
-    (sort_opened sort more vs h.0) (h.1.0 vs)
+step_no_less (At (symbol ∷ more) vs fs) h = goes_no_less (raised symbol (heights_of vs fs)) more (step (At (symbol ∷ more) vs fs)) (step_goes symbol more vs fs h)
 step_no_less (Bad fs) h = tt
 step_no_less (Done vs) h = le_refl (tallest 1 (map height vs))
 
 -- A refusal stays.
-refused : {c d : Config} → Comes c d → (fs : List Fed) → c ≡ Bad fs → (vs : List Value) → d ≡ Done vs → ⊥
+pub refused : {c d : Config} → Comes c d → (fs : List Fed) → c ≡ Bad fs → (vs : List Value) → d ≡ Done vs → ⊥
 refused here fs e vs f = true≢false (sym (ap is_bad e) ∙ ap is_bad f)
   where
     is_bad : Config → Bool

@@ -1,5 +1,5 @@
 -- What is said of heights that are not known holds of all heights.
-use Rattle.std.proofs.Common.{◌≡◌, ℕ, zero, suc, ◌+◌, ◌≤◌, max, refl, sym, ap, ◌∙◌, subst, List, [], ◌∷◌, ◌++◌, map, drop, get_or, Option, Some, None, Bool, true, false, cond, ◌||◌, leb, nat_eq, true≢false, arith, zero-le, le_refl}
+use Rattle.std.proofs.Common.{◌≡◌, ℕ, zero, suc, ◌+◌, ◌≤◌, max, refl, sym, ap, ◌∙◌, subst, List, [], ◌∷◌, ◌++◌, map, drop, get_or, Option, Some, None, Bool, true, false, cond, ◌||◌, leb, nat_eq, true≢false, arith, zero-le, le_refl, le_trans}
 use Rattle.std.proofs.lemmas.Bool.{eqb-true, leb-true}
 use Rattle.cc_table.specs.declared.symbols.Sort.{Sort}
 use Rattle.cc_table.specs.declared.symbols.Symbol.{Symbol}
@@ -24,7 +24,19 @@ pub no_higher_same : (xs : List ℕ) → NoHigher xs xs
 no_higher_same [] = tt
 no_higher_same (x ∷ xs) = (le_refl x, no_higher_same xs)
 
-tallest_grows : (n : ℕ) (xs ys : List ℕ) → NoHigher xs ys → tallest n xs ≤ tallest n ys
+no_higher_through : (xs ys zs : List ℕ) → NoHigher xs ys → NoHigher ys zs → NoHigher xs zs
+no_higher_through [] ys zs h k = tt
+no_higher_through (x ∷ xs) [] zs h k = absurd h
+no_higher_through (x ∷ xs) (y ∷ ys) [] h k = absurd k
+no_higher_through (x ∷ xs) (y ∷ ys) (z ∷ zs) h k = (le_trans h.0 k.0, no_higher_through xs ys zs h.1 k.1)
+
+pub through : (h k l : Heights) → AllNoHigher h k → AllNoHigher k l → AllNoHigher h l
+through h k l f g = (le_trans f.0 g.0, no_higher_through h.stack k.stack l.stack f.1 g.1)
+
+pub same_heights : (h : Heights) → AllNoHigher h h
+same_heights h = (le_refl h.pending, no_higher_same h.stack)
+
+pub tallest_grows : (n : ℕ) (xs ys : List ℕ) → NoHigher xs ys → tallest n xs ≤ tallest n ys
 tallest_grows zero xs ys h = le_refl 0
 tallest_grows (suc n) [] ys h = zero-le
 tallest_grows (suc n) (x ∷ xs) [] h = absurd h
@@ -33,7 +45,7 @@ tallest_grows (suc n) (x ∷ xs) (y ∷ ys) h =
     let f : x ≤ y = h.0 in
     omega arith
 
-drop_grows : (n : ℕ) (xs ys : List ℕ) → NoHigher xs ys → NoHigher (drop n xs) (drop n ys)
+pub drop_grows : (n : ℕ) (xs ys : List ℕ) → NoHigher xs ys → NoHigher (drop n xs) (drop n ys)
 drop_grows zero xs ys h = h
 drop_grows (suc n) [] ys h = tt
 drop_grows (suc n) (x ∷ xs) [] h = absurd h
@@ -51,7 +63,7 @@ left_grows OneInput x y xs ys h hs = (h, hs)
 part_grows : (l a p q x y : ℕ) → p ≤ q → x ≤ y → max l (max p x + a) ≤ max l (max q y + a)
 part_grows l a p q x y h k = omega arith
 
-raised_grows : (symbol : Symbol) (h k : Heights) → AllNoHigher h k → AllNoHigher (raised symbol h) (raised symbol k)
+pub raised_grows : (symbol : Symbol) (h k : Heights) → AllNoHigher h k → AllNoHigher (raised symbol h) (raised symbol k)
 raised_grows (Non sort) h k g =
     left_grows (leaves sort) (part_height sort h) (part_height sort k) (drop (takes sort) h.stack) (drop (takes sort) k.stack)
     (part_grows (least sort) (adds sort) (cond (receives sort) h.pending 0) (cond (receives sort) k.pending 0) (tallest (takes sort) h.stack) (tallest (takes sort) k.stack)
@@ -63,7 +75,7 @@ raised_grows (Act action) h k g =
 raised_grows (Back input) h k g =
     (cond_grows (is_tree input) (tallest 1 h.stack) (tallest 1 k.stack) (tallest_grows 1 h.stack k.stack g.1), drop_grows 1 h.stack k.stack g.1)
 
-all_grow : (more : List Symbol) (h k : Heights) → AllNoHigher h k → AllNoHigher (raised_all more h) (raised_all more k)
+pub all_grow : (more : List Symbol) (h k : Heights) → AllNoHigher h k → AllNoHigher (raised_all more h) (raised_all more k)
 all_grow [] h k g = g
 all_grow (symbol ∷ more) h k g = all_grow more (raised symbol h) (raised symbol k) (raised_grows symbol h k g)
 

@@ -56,6 +56,8 @@ pub mod HeightsOfActions
 pub mod LeastKept
 pub mod HeightLaws
 pub mod LeastSketched
+pub mod LeastJoined
+pub mod LeastToCome
 pub mod Tokens
 pub mod AbleSymbols
 pub mod AbleTypes

@@ -17,7 +17,7 @@ use Rattle.cc_pushdown.specs.declared.value.Value.TheVariants as v
 use Rattle.cc_pushdown.specs.Build.{Ready, build}
 use Rattle.cc_pushdown.specs.Machine.{Fed, feed, value_of, At, Done, Comes, start}
 use Rattle.cc_grammar_laws.specs.Kinds.{AllFed, Fits}
-use Rattle.cc_grammar_laws.specs.Heights.{height, heights, heights_of, tallest, least_depth}
+use Rattle.cc_grammar_laws.specs.Heights.{height, heights, heights_of, tallest, least_to_come}
 
 -- The values fit what is expected, wherever the automaton comes to from a source's tokens.
 abbrev pub StackFits : Type 0
@@ -30,12 +30,12 @@ ActionIsReady = (action : Action) (more : List Symbol) (vs : List Value) → Fit
 -- Nothing that comes is less deep than the least depth.
 abbrev pub LeastIsLeast : Type 0
 LeastIsLeast = (names : Names) (tokens : List Token) (more : List Symbol) (vs : List Value) (fs : List Fed) (tree : unit.Unit)
-    → Comes (start (classify names tokens)) (At more vs fs) → Comes (start (classify names tokens)) (Done (v.Unit tree ∷ [])) → least_depth more (heights_of vs fs) ≤ unit_depth tree
+    → Comes (start (classify names tokens)) (At more vs fs) → Comes (start (classify names tokens)) (Done (v.Unit tree ∷ [])) → least_to_come more (heights_of vs fs) ≤ unit_depth tree
 
 -- Where the least depth after some tokens is over a limit, each unit that begins with them is deeper than the limit.
 abbrev pub DeepAreDeep : Type 0
 DeepAreDeep = (names : Names) (tokens rest : List Token) (more : List Symbol) (vs : List Value) (tree : unit.Unit) (limit : ℕ)
-    → Comes (start (classify names (tokens ++ rest))) (At more vs (map feed (classify names rest))) → limit < least_depth more (heights 0 (map height vs)) → Spells names (tokens ++ rest) tree → limit < unit_depth tree
+    → Comes (start (classify names (tokens ++ rest))) (At more vs (map feed (classify names rest))) → limit < least_to_come more (heights 0 (map height vs)) → Spells names (tokens ++ rest) tree → limit < unit_depth tree
 
 -- An action makes the heights from those of the values that it uses.
 abbrev pub HeightsAreKept : Type 0

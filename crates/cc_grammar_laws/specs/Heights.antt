@@ -1,12 +1,12 @@
 -- The heights of the parser's values, and from them the least depth of the trees to come.
-use Rattle.std.specs.Prelude.{ℕ, zero, suc, ◌+◌, max, List, [], ◌∷◌, map, drop, Bool, true, false, cond}
+use Rattle.std.specs.Prelude.{ℕ, zero, suc, ◌+◌, max, min, List, [], ◌∷◌, map, drop, Bool, true, false, cond, leb}
+use Rattle.cc_tree.specs.declared.expression.BinaryOperator.TheVariants as b
+use Rattle.cc_tree.specs.Operators.{level}
 use Rattle.cc_tree.specs.declared.statement.Section.{Section, fold-Section}
 use Rattle.cc_tree.specs.declared.statement.Catch.{Catch, fold-Catch}
 use Rattle.cc_tree.specs.Depth.{greatest, optional_of, type_depth, type_arguments_depth, expression_depth, arguments_depth, statement_depth, statement_layer, block_depth, block_layer, catch_layer, section_layer, label_depth, local_depth, declarator_depth, start_depth, caught_depth, parameter_depth, parameters_depth, overridden_depth, named_function_depth, accessor_depth, member_initializer_depth, property_name_depth, member_depth, base_depth, class_depth, enumerator_depth, enumeration_depth, function_depth, template_parameter_depth, template_depth, outer_depth, unit_depth}
 use Rattle.cc_table.specs.declared.symbols.Sort.{Sort}
 use Rattle.cc_table.specs.declared.symbols.Sort.TheVariants as o
-use Rattle.cc_table.specs.declared.symbols.Action.{Action}
-use Rattle.cc_table.specs.declared.symbols.Action.TheVariants as a
 use Rattle.cc_table.specs.declared.symbols.Input.{Input}
 use Rattle.cc_table.specs.declared.symbols.Input.TheVariants as i
 use Rattle.cc_table.specs.declared.symbols.Symbol.{Symbol}
@@ -128,3 +128,47 @@ raised_all (symbol ∷ more) h = raised_all more (raised symbol h)
 -- the least depth of the trees that can still come
 abbrev pub least_depth : List Symbol → Heights → ℕ
 least_depth more h = tallest 1 (raised_all more h).stack
+
+-- The least depth where an operator takes the topmost value: a node is made of that and an operand, which has a tree that waits or is a node too (ECMA-372, 15).
+abbrev pub operator_taken : List Symbol → Heights → ℕ
+operator_taken more h = least_depth more (heights 0 ((max (tallest 1 h.stack) (h.pending + 1) + 1) ∷ drop 1 h.stack))
+
+-- The least depth where an operator of a level comes after the topmost value: the first part takes it that is no tighter. What waits stands behind the operator.
+abbrev pub joined : ℕ → List Symbol → Heights → ℕ
+joined tightness (Act action ∷ more) h = joined tightness more (raised (Act action) h)
+joined tightness (Non o.SuffixRest ∷ more) h = joined tightness more h
+joined tightness (Non o.AfterUnary ∷ more) h = operator_taken more h
+joined tightness (Non (o.BinaryRest n) ∷ more) h = cond (leb n tightness) (operator_taken more h) (joined tightness more h)
+joined tightness more h = least_depth more (heights 0 h.stack)
+
+-- The least depth after a `<`: it begins types, which stand two deeper than the node's own, or is an operator after the node that is there without them.
+abbrev pub after_less : ℕ → ℕ → List Symbol → Heights → ℕ
+after_less bare taken more h =
+    min (least_depth more (heights 0 (max bare (max 1 h.pending + 2) ∷ drop taken h.stack)))
+    (joined (level b.Less) more (heights h.pending (bare ∷ drop taken h.stack)))
+
+-- a name, the name of a member and the type that is created, each with a `<` after it
+abbrev pub name_less : List Symbol → Heights → ℕ
+name_less more h = after_less 1 2 more h
+
+abbrev pub member_less : List Symbol → Heights → ℕ
+member_less more h = after_less (tallest 3 (drop 1 h.stack) + 1) 4 more h
+
+abbrev pub new_less : List Symbol → Heights → ℕ
+new_less more h = after_less 2 3 more h
+
+-- A `>` between operands is an operator, or begins one.
+abbrev pub after_greater : List Symbol → List ℕ → ℕ
+after_greater more stack = min (joined (level b.Greater) more (heights 0 stack)) (joined (level b.ShiftRight) more (heights 0 stack))
+
+-- The least depth of the trees that can come after a token.
+abbrev pub least_to_come : List Symbol → Heights → ℕ
+least_to_come [] h = tallest 1 h.stack
+least_to_come (Non o.GreaterEnd ∷ more) h = after_greater more (drop 1 h.stack)
+least_to_come (Non o.AfterNameLess ∷ more) h = name_less more (heights 0 h.stack)
+least_to_come (Non o.NameTypes ∷ more) h = name_less more h
+least_to_come (Non o.AfterMemberLess ∷ more) h = member_less more (heights 0 h.stack)
+least_to_come (Non o.MemberTypes ∷ more) h = member_less more h
+least_to_come (Non o.AfterNewLess ∷ more) h = new_less more (heights 0 h.stack)
+least_to_come (Non o.NewTypes ∷ more) h = new_less more h
+least_to_come (symbol ∷ more) h = least_to_come more (raised symbol h)
