@@ -1,14 +1,14 @@
 -- A run of straight code ends as the source's run, and within as many steps as it has instructions.
-use Rattle.std.proofs.Common.{◌≡◌, ◌≤◌, ◌<◌, ◌^◌, ℕ, zero, suc, List, [], ◌∷◌, length, refl, sym, ap, subst, ◌∙◌, arith}
-use Rattle.std.specs.Prelude.{Bool, true, false, Option, Some, None, nat_lt, reverse, if◌then◌else◌}
+use Rattle.std.proofs.Common.{◌≡◌, ◌≤◌, ◌<◌, ◌^◌, ℕ, List, [], length, refl, sym, ap, subst, ◌∙◌, arith}
+use Rattle.std.specs.Prelude.{Bool, true, false, Option, Some, nat_lt, reverse, if◌then◌else◌}
 use Rattle.std.specs.List.{flat_map}
 use Rattle.std.specs.Int.{w32, cast_signed}
 use Rattle.cc_base.specs.Cells.{arguments_pass}
 use Rattle.cc_base.specs.declared.running.Limits.{Limits}
 use Rattle.cc_base.specs.declared.running.Ending.{Ending}
 use Rattle.cc_base.specs.declared.running.Ending.TheVariants as ending
-use Rattle.cc_core.specs.Source.{Source, source_operations}
-use Rattle.cc_core.specs.Meaning.{Ran, value_of, line_of, run_of}
+use Rattle.cc_core.specs.StraightSource.{Source, source_operations}
+use Rattle.cc_core.specs.StraightMeaning.{Ran, value_of, line_of, run_of}
 use Rattle.cc_cil.specs.declared.body.Body.{Body}
 use Rattle.cc_machine.specs.declared.machine.Execution.{Execution}
 use Rattle.cc_machine.specs.declared.machine.Phase.{Phase}

@@ -1,6 +1,6 @@
 -- Code with an instruction for each operation of a source is right at each offset, and runs as the source means.
-use Rattle.std.proofs.Common.{◌≡◌, ◌≢◌, ◌≤◌, ◌<◌, ◌+◌, ◌-◌, ◌^◌, ℕ, zero, suc, List, [], ◌∷◌, ◌++◌, length, drop, refl, sym, ap, subst, ◌∙◌, append_assoc, length-append, add-one, arith}
-use Rattle.std.specs.Prelude.{Bool, true, false, Option, Some, None, nat_lt, ◌&&◌, ◌==◌, if◌then◌else◌}
+use Rattle.std.proofs.Common.{◌≡◌, ◌≤◌, ◌+◌, ℕ, suc, List, [], ◌∷◌, ◌++◌, length, refl, sym, ap, subst, ◌∙◌, append_assoc, length-append, add-one, arith}
+use Rattle.std.specs.Prelude.{false, Some, None, nat_lt, ◌&&◌, ◌==◌}
 use Rattle.std.specs.List.{flat_map, AllByRecursion}
 use Rattle.std.specs.Int.{w32, cast_signed}
 use Rattle.std.proofs.lemmas.Bool.{lt-ltb, le-ltb}
@@ -8,10 +8,10 @@ use Rattle.std.proofs.lemmas.List.{append-nil}
 use Rattle.std.proofs.Math.Seq.{drop-append_seam}
 use Rattle.std.proofs.lemmas.Grind.{flat_map-append}
 use Rattle.cc_base.specs.declared.running.Ending.TheVariants as ending
-use Rattle.cc_core.specs.declared.program.Operation.{Operation}
-use Rattle.cc_core.specs.declared.program.Operation.TheVariants as operation
-use Rattle.cc_core.specs.Source.{Term, Source, operations_of, line_operations, source_operations}
-use Rattle.cc_core.specs.Meaning.{value_of, line_of}
+use Rattle.cc_core.specs.declared.straight.StraightOperation.{StraightOperation}
+use Rattle.cc_core.specs.declared.straight.StraightOperation.TheVariants as operation
+use Rattle.cc_core.specs.StraightSource.{Source, operations_of, line_operations, source_operations}
+use Rattle.cc_core.specs.StraightMeaning.{value_of, line_of}
 use Rattle.cc_cil.specs.declared.body.Body.{Body}
 use Rattle.cc_cil.specs.declared.instruction.Instruction.{Instruction}
 use Rattle.cc_cil.specs.declared.action.Action.{Action}
@@ -68,7 +68,7 @@ module _ (code : List ℕ) (most : ℕ) where
   here : (before rest : List ℕ) (i : Instruction) (is : List Instruction) → code ≡ before ++ (flat_map spelling (i ∷ is) ++ rest) → IsInRange (operand i) → Stands code (length before) i
   here before rest i is e r = stands_at code before (flat_map spelling is ++ rest) i (e ∙ ap (λ x. before ++ x) (append_assoc (spelling i) (flat_map spelling is) rest)) r
 
-  pub path_runs : {os : List Operation} {s o s' o' : List ℕ} → Path most os s o s' o' → (is : List Instruction) (before rest : List ℕ) → Acts is os → code ≡ before ++ (flat_map spelling is ++ rest)
+  pub path_runs : {os : List StraightOperation} {s o s' o' : List ℕ} → Path most os s o s' o' → (is : List Instruction) (before rest : List ℕ) → Acts is os → code ≡ before ++ (flat_map spelling is ++ rest)
       → Runs code (length os) (Running (length before) s o) (Running (length (before ++ flat_map spelling is)) s' o')
   path_runs {s = s} {o = o} ends [] before rest acts e = subst (λ b. Runs code 0 (Running (length before) s o) (Running (length b) s o)) (sym (append-nil before)) stays
   path_runs ends (i ∷ is) before rest acts e = absurd acts
@@ -79,7 +79,7 @@ module _ (code : List ℕ) (most : ℕ) where
       steps (subst (λ n. Step code (Running (length before) s o) (Running n s1 o1)) (sym (length-append before (spelling i))) first)
       (subst (λ b. Runs code (length os) (Running (length (before ++ spelling i)) s1 o1) (Running (length b) s' o')) (append_assoc before (spelling i) (flat_map spelling is)) later)
 
-  pub path_checks : {os : List Operation} {s o s' o' : List ℕ} → Path most os s o s' o' → (is : List Instruction) (before rest : List ℕ) → Acts is os → code ≡ before ++ (flat_map spelling is ++ rest)
+  pub path_checks : {os : List StraightOperation} {s o s' o' : List ℕ} → Path most os s o s' o' → (is : List Instruction) (before rest : List ℕ) → Acts is os → code ≡ before ++ (flat_map spelling is ++ rest)
       → Checks code most (length (before ++ flat_map spelling is)) (length s') None → Checks code most (length before) (length s) None
   path_checks {s = s} ends [] before rest acts e c = subst (λ b. Checks code most (length b) (length s) None) (append-nil before) c
   path_checks ends (i ∷ is) before rest acts e c = absurd acts
@@ -91,7 +91,7 @@ module _ (code : List ℕ) (most : ℕ) where
       (subst (λ n. Checks code most n (length s1) None) (length-append before (spelling i)) later)
 
 -- the instructions of two lists of operations, one behind the other
-pub acts_split : (a b : List Operation) (is : List Instruction) → Acts is (a ++ b) → (first : List Instruction) × (second : List Instruction) × (is ≡ first ++ second) × Acts first a × Acts second b
+pub acts_split : (a b : List StraightOperation) (is : List Instruction) → Acts is (a ++ b) → (first : List Instruction) × (second : List Instruction) × (is ≡ first ++ second) × Acts first a × Acts second b
 acts_split [] b is h = ([], is, refl, tt, h)
 acts_split (o ∷ a) b [] h = absurd h
 acts_split (o ∷ a) b (i ∷ is) h = let r = acts_split a b is h.2 in (i ∷ r.0, r.1, ap (λ x. i ∷ x) r.2, (h.0, h.1, r.3), r.4)
@@ -103,7 +103,7 @@ acts_return (i ∷ []) h = (i, refl, h.0, h.1)
 acts_return (i ∷ j ∷ is) h = absurd h.2
 
 -- a path, and behind it the return of its one value
-module _ (code : List ℕ) (most : ℕ) (first : List Instruction) (last : Instruction) (text : code ≡ flat_map spelling first ++ spelling last) (os : List Operation) (acts : Acts first os)
+module _ (code : List ℕ) (most : ℕ) (first : List Instruction) (last : Instruction) (text : code ≡ flat_map spelling first ++ spelling last) (os : List StraightOperation) (acts : Acts first os)
     (is_return_here : action_of last ≡ Some Return) (in_range : IsInRange (operand last)) (v : ℕ) (out : List ℕ) (path : Path most os [] [] (v ∷ []) out) where
   last_stands : Stands code (length (flat_map spelling first)) last
   last_stands = stands_at code (flat_map spelling first) [] last (text ∙ ap (λ x. flat_map spelling first ++ x) (sym (append-nil (spelling last)))) in_range
@@ -121,7 +121,7 @@ module _ (code : List ℕ) (most : ℕ) (first : List Instruction) (last : Instr
       (code_words.ends last last_stands (rw is_return_here refl) (rw is_return_here refl) size)
 
 -- what the instructions of a whole source are: those before its return, and that
-pub record Layout (code : List ℕ) (os : List Operation) : Type 0 where
+pub record Layout (code : List ℕ) (os : List StraightOperation) : Type 0 where
   pub first : List Instruction
   pub last : Instruction
   pub text : code ≡ flat_map spelling first ++ spelling last
@@ -129,7 +129,7 @@ pub record Layout (code : List ℕ) (os : List Operation) : Type 0 where
   pub is_return_here : action_of last ≡ Some Return
   pub in_range : IsInRange (operand last)
 
-pub layout : (code : List ℕ) (is : List Instruction) (os : List Operation) → code ≡ flat_map spelling is → Acts is (os ++ operation.Return ∷ []) → Layout code os
+pub layout : (code : List ℕ) (is : List Instruction) (os : List StraightOperation) → code ≡ flat_map spelling is → Acts is (os ++ operation.Return ∷ []) → Layout code os
 layout code is os e acts =
     let split = acts_split os (operation.Return ∷ []) is acts in
     let last = acts_return split.1 split.4 in
@@ -160,13 +160,13 @@ source_checks body source runs =
     let l = layout body.code runs.instructions os runs.code runs.acts in
     checks_to_end body.code greatest_height l.first l.last l.text os l.acts l.is_return_here l.in_range (value_of source.result) (flat_map (λ t. line_of (value_of t)) source.lines) (source_path source runs.lines_low runs.result_low)
 
-pub acts_more : (is : List Instruction) (os : List Operation) (i : Instruction) (o : Operation) → Acts is os → action_of i ≡ Some (action_for o) → IsInRange (operand i) → Acts (is ++ i ∷ []) (os ++ o ∷ [])
+pub acts_more : (is : List Instruction) (os : List StraightOperation) (i : Instruction) (o : StraightOperation) → Acts is os → action_of i ≡ Some (action_for o) → IsInRange (operand i) → Acts (is ++ i ∷ []) (os ++ o ∷ [])
 acts_more [] [] i o h a r = (a, r, tt)
 acts_more [] (p ∷ os) i o h a r = absurd h
 acts_more (j ∷ is) [] i o h a r = absurd h
 acts_more (j ∷ is) (p ∷ os) i o h a r = (h.0, h.1, acts_more is os i o h.2 a r)
 
-pub code_more : (code code' : List ℕ) (os os' : List Operation) (i : Instruction) (o : Operation) → IsCodeOf code os → code' ≡ code ++ spelling i → os' ≡ os ++ o ∷ [] → action_of i ≡ Some (action_for o) → IsInRange (operand i) → IsCodeOf code' os'
+pub code_more : (code code' : List ℕ) (os os' : List StraightOperation) (i : Instruction) (o : StraightOperation) → IsCodeOf code os → code' ≡ code ++ spelling i → os' ≡ os ++ o ∷ [] → action_of i ≡ Some (action_for o) → IsInRange (operand i) → IsCodeOf code' os'
 code_more code code' os os' i o h e f a r = (
   h.0 ++ i ∷ [],
   e ∙ ap (λ x. x ++ spelling i) h.1 ∙ ap (λ x. flat_map spelling h.0 ++ x) (sym (append-nil (spelling i))) ∙ sym (flat_map-append spelling h.0 (i ∷ [])),

@@ -1,30 +1,27 @@
 -- The operations of a term leave its value, and those of a source print its lines and give its result.
-use Rattle.std.proofs.Common.{◌≡◌, ◌≢◌, ◌≤◌, ◌<◌, ◌+◌, ◌-◌, ◌*◌, ◌%◌, ◌^◌, ℕ, zero, suc, max, List, [], ◌∷◌, ◌++◌, length, drop, refl, sym, ap, subst, ◌∙◌, append_assoc, length-append, arith}
-use Rattle.std.specs.Prelude.{Bool, true, false, Option, Some, None, nat_lt, ◌&&◌, ◌==◌, if◌then◌else◌}
+use Rattle.std.proofs.Common.{◌≤◌, ◌+◌, ℕ, suc, List, [], ◌∷◌, ◌++◌, length, sym, subst, append_assoc, arith}
 use Rattle.std.specs.List.{flat_map, AllByRecursion}
-use Rattle.std.proofs.lemmas.Bool.{lt-ltb}
 use Rattle.std.proofs.lemmas.List.{append-nil}
-use Rattle.cc_core.specs.declared.program.Operator.{Operator}
-use Rattle.cc_core.specs.declared.program.Operator.TheVariants as operator
-use Rattle.cc_core.specs.declared.program.Operation.{Operation}
-use Rattle.cc_core.specs.declared.program.Operation.TheVariants as operation
-use Rattle.cc_core.specs.Source.{Term, number, apply, Source, operations_of, line_operations, source_operations}
-use Rattle.cc_core.specs.Meaning.{applied, value_of, line_of}
-use Rattle.cc_cil.specs.declared.action.Action.{Action}
-use Rattle.cc_cil.specs.Steps.{State, Running, Ended, Does, pushes, adds, subtracts, multiplies, writes, returns}
-use Rattle.cc_straight.specs.Straight.{action_for, operator_action, height_of, greatest_height}
+use Rattle.cc_core.specs.declared.straight.StraightOperator.{StraightOperator}
+use Rattle.cc_core.specs.declared.straight.StraightOperator.TheVariants as operator
+use Rattle.cc_core.specs.declared.straight.StraightOperation.{StraightOperation}
+use Rattle.cc_core.specs.declared.straight.StraightOperation.TheVariants as operation
+use Rattle.cc_core.specs.StraightSource.{Term, number, apply, operations_of, line_operations}
+use Rattle.cc_core.specs.StraightMeaning.{applied, value_of, line_of}
+use Rattle.cc_cil.specs.Steps.{Running, Does, pushes, adds, subtracts, multiplies, writes}
+use Rattle.cc_straight.specs.Straight.{action_for, height_of}
 
 -- operations lead from a stack and an output to others, never above a height
-pub data Path (most : ℕ) : List Operation → List ℕ → List ℕ → List ℕ → List ℕ → Type 0 where
+pub data Path (most : ℕ) : List StraightOperation → List ℕ → List ℕ → List ℕ → List ℕ → Type 0 where
   ends : {stack out : List ℕ} → Path most [] stack out stack out
-  next : {o : Operation} {os : List Operation} {stack out stack' out' stack'' out'' : List ℕ} → ((at : ℕ) → Does (action_for o) at stack out (Running at stack' out')) → length stack' ≤ most
+  next : {o : StraightOperation} {os : List StraightOperation} {stack out stack' out' stack'' out'' : List ℕ} → ((at : ℕ) → Does (action_for o) at stack out (Running at stack' out')) → length stack' ≤ most
       → Path most os stack' out' stack'' out'' → Path most (o ∷ os) stack out stack'' out''
 
-pub path_append : {most : ℕ} {a b : List Operation} {s o s1 o1 s2 o2 : List ℕ} → Path most a s o s1 o1 → Path most b s1 o1 s2 o2 → Path most (a ++ b) s o s2 o2
+pub path_append : {most : ℕ} {a b : List StraightOperation} {s o s1 o1 s2 o2 : List ℕ} → Path most a s o s1 o1 → Path most b s1 o1 s2 o2 → Path most (a ++ b) s o s2 o2
 path_append ends q = q
 path_append (next d h p) q = next d h (path_append p q)
 
-operate : {most : ℕ} (o : Operator) (l r : ℕ) (stack out : List ℕ) → suc (length stack) ≤ most → Path most (operation.Apply o ∷ []) (r ∷ l ∷ stack) out (applied o l r ∷ stack) out
+operate : {most : ℕ} (o : StraightOperator) (l r : ℕ) (stack out : List ℕ) → suc (length stack) ≤ most → Path most (operation.Apply o ∷ []) (r ∷ l ∷ stack) out (applied o l r ∷ stack) out
 operate operator.Add l r stack out h = next (λ at. adds) h ends
 operate operator.Subtract l r stack out h = next (λ at. subtracts) h ends
 operate operator.Multiply l r stack out h = next (λ at. multiplies) h ends

@@ -3,7 +3,7 @@ use Rattle.std.specs.Prelude.{◌≡◌, Option, Some, None}
 use Rattle.cc_base.specs.declared.running.Ending.{Ending}
 use Rattle.cc_machine.specs.declared.machine.Stop.{Stop}
 use Rattle.cc_machine.specs.declared.machine.Stop.TheVariants.{Ended, StepLimit, Memory}
-use Rattle.cc_core.specs.Meaning.{Ran}
+use Rattle.cc_core.specs.StraightMeaning.{Ran}
 use Rattle.cc_straight.specs.declared.runner.Executed.{Executed}
 
 -- the execution printed what the run prints, and ended as it ends

@@ -1,6 +1,6 @@
+pub mod Added
 pub mod Executing
 pub mod Form
-pub mod Lexemes
-pub mod Machine
+pub mod Laws
 pub mod Reading
 pub mod Straight

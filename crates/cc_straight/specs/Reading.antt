@@ -1,27 +1,38 @@
 -- Which straight source the bytes of a text spell, and why and where a text is refused.
-use Rattle.std.specs.Prelude.{◌≡◌, ℕ, List, map, length, Option, Some, None, Result, Ok, Err}
+use Rattle.std.specs.Prelude.{◌≡◌, ℕ, List, ⊤, Option, Some, None, Result, Ok, Err}
 use Rattle.cc_base.specs.declared.text.Span.{Span}
 use Rattle.cc_base.specs.declared.kind.Kind.{Kind}
 use Rattle.cc_base.specs.declared.kind.Kind.TheVariants as kind
 use Rattle.cc_tree.specs.declared.token.Token.{Token}
-use Rattle.cc_tree.specs.Refusals.{span}
+use Rattle.cc_tree.specs.declared.unit.Unit as unit
 use Rattle.cc_tree.specs.Spelling.{Spelled}
-use Rattle.cc_core.specs.Source.{Source}
+use Rattle.cc_terminals.specs.declared.fault.ParseFault.{ParseFault}
+use Rattle.cc_terminals.specs.Faults as faults
+use Rattle.cc_grammar.specs.Parse as parse
+use Rattle.cc_grammar.specs.Parse.{Accepts}
+use Rattle.cc_core.specs.StraightSource.{Source}
+use Rattle.cc_straight.specs.Form.{Judged, IsStraight, FirstUnbuilt}
 use Rattle.cc_cil.specs.declared.body.Body.{Body}
 use Rattle.cc_straight.specs.Straight.{RunsAs}
-use Rattle.cc_straight.specs.Lexemes.{lexeme_of}
-use Rattle.cc_straight.specs.Form.{IsForm}
-use Rattle.cc_straight.specs.declared.compiler.CompileFault.{CompileFault}
-use Rattle.cc_straight.specs.declared.compiler.CompileFault.TheVariants.{Refused, Memory}
+use Rattle.cc_straight.specs.declared.fault.CompileFault.{CompileFault}
+use Rattle.cc_straight.specs.declared.fault.CompileFault.TheVariants.{Refused, Memory}
 
--- the text has tokens, and they spell the source
-abbrev pub Reads : List ℕ → Source → Type 0
-Reads text source = (tokens : List Token) × Spelled text (Ok tokens) × IsForm source (map lexeme_of tokens)
+-- the text has tokens, they have a tree, and it is the source
+pub record Reads (text : List ℕ) (source : Source) : Type 0 where
+  pub tokens : List Token
+  pub tree : unit.Unit
+  pub lexed : Spelled text (Ok tokens)
+  pub parsed : Accepts tokens tree
+  pub straight : IsStraight tree source
 
--- a text without tokens is refused at the first place at which no token begins; one whose tokens spell no straight source is not built yet, all of it
+-- A text without tokens is refused at the first place at which no token begins; tokens without a tree as the parser refuses them;
+-- a tree that isn't straight at its first node that isn't built.
 pub data Refuses : List ℕ → Kind → Span → Type 0 where
   lexical : {text : List ℕ} {why : Kind} {place : Span} → Spelled text (Err (why, place)) → Refuses text why place
-  not_yet : {text : List ℕ} (tokens : List Token) → Spelled text (Ok tokens) → ((source : Source) → IsForm source (map lexeme_of tokens) → ⊥) → Refuses text kind.NotYet (span 0 (length text))
+  parsing : {text : List ℕ} {why : Kind} {place : Span} (tokens : List Token) (fault : ParseFault)
+      → Spelled text (Ok tokens) → parse.Refuses tokens fault → faults.refusal fault ≡ Some (why, place) → Refuses text why place
+  not_yet : {text : List ℕ} {place : Span} (tokens : List Token) (tree : unit.Unit)
+      → Spelled text (Ok tokens) → Accepts tokens tree → FirstUnbuilt tree place → Refuses text kind.NotYet place
 
 abbrev pub IsCompileFault : List ℕ → CompileFault → Type 0
 IsCompileFault text (Refused why place) = Refuses text why place
@@ -32,9 +43,10 @@ abbrev pub refusal_of : CompileFault → Option (Kind × Span)
 refusal_of (Refused why place) = Some (why, place)
 refusal_of Memory = None
 
--- what is said of tokens: the code runs as a source that they spell, and as each, or they spell none
-abbrev pub IsCompiled : Option Body → List Token → Type 0
-IsCompiled None tokens = (source : Source) → IsForm source (map lexeme_of tokens) → ⊥
-IsCompiled (Some code) tokens =
-    ((source : Source) × IsForm source (map lexeme_of tokens) × RunsAs code source)
-    × ((source : Source) → IsForm source (map lexeme_of tokens) → RunsAs code source)
+-- what is said of the code of a tree: it runs as the source that the tree is, or the tree's first node that isn't built is told
+abbrev pub IsCompiled : Result Body CompileFault → Judged Source → Type 0
+IsCompiled (Ok code) (Ok source) = RunsAs code source
+IsCompiled (Ok code) (Err span) = ⊥
+IsCompiled (Err Memory) judged = ⊤
+IsCompiled (Err (Refused why place)) (Ok source) = ⊥
+IsCompiled (Err (Refused why place)) (Err span) = Refused why place ≡ Refused kind.NotYet span

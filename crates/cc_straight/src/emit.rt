@@ -5,12 +5,12 @@ ghost use Rattle.cc_cil.specs.Steps.{action_of};
 ghost use Rattle.cc_straight.specs.Straight.{action_for, operator_action, IsCodeOf};
 
 use cc_cil::{Instruction, WRITE_LINE, encode_one};
-use cc_core::{Operation, Operator};
+use cc_core::{StraightOperation, StraightOperator};
 use std::alloc::{AllocError, Global};
 
 // Pushes a number in as few bytes as its value allows.
 fn load_number(value: u32) -> Instruction
-    ensures acts { action_of result ≡ Some (action_for (Operation.Number value)) }
+    ensures acts { action_of result ≡ Some (action_for (StraightOperation.Number value)) }
     ensures in_range { IsInRange (operand result) }
 {
     match value {
@@ -29,22 +29,22 @@ fn load_number(value: u32) -> Instruction
     }
 }
 
-fn instruction_of(operation: Operation) -> Instruction
+fn instruction_of(operation: StraightOperation) -> Instruction
     ensures acts { action_of result ≡ Some (action_for operation) }
     ensures in_range { IsInRange (operand result) }
 {
     match operation {
-        Operation::Number(value) => load_number(value),
-        Operation::Apply(Operator::Add) => Instruction::Add,
-        Operation::Apply(Operator::Subtract) => Instruction::Subtract,
-        Operation::Apply(Operator::Multiply) => Instruction::Multiply,
-        Operation::WriteLine => Instruction::Call { method: WRITE_LINE },
-        Operation::Return => Instruction::Return,
+        StraightOperation::Number(value) => load_number(value),
+        StraightOperation::Apply(StraightOperator::Add) => Instruction::Add,
+        StraightOperation::Apply(StraightOperator::Subtract) => Instruction::Subtract,
+        StraightOperation::Apply(StraightOperator::Multiply) => Instruction::Multiply,
+        StraightOperation::WriteLine => Instruction::Call { method: WRITE_LINE },
+        StraightOperation::Return => Instruction::Return,
     }
 }
 
 /// The code of some operations: an instruction for each, in order.
-pub fn emit(alloc: Global, operations: &[Operation]) -> Result<Vec<u8>, AllocError>
+pub fn emit(alloc: Global, operations: &[StraightOperation]) -> Result<Vec<u8>, AllocError>
     ensures { IfOk result (λ code. IsCodeOf code.items operations.now) }
 {
     let mut code = Vec::new(alloc);

@@ -1,13 +1,17 @@
-//! The straight form of a program: reading it, compiling it to a method body, and executing that.
+//! The straight form of a program: compiling its tree to a method body, and executing that.
 #![tactic(auto)]
 
 mod compiler;
 mod emit;
-mod levels;
-mod lexeme;
-mod read;
+mod fault;
+mod laws;
+mod lines;
 mod runner;
-mod sum;
+mod spans;
+mod term;
+mod unit;
 
-pub use compiler::{CompileFault, compile};
+pub use compiler::compile;
+pub use fault::CompileFault;
+pub use laws::{one_source, straight_or_unbuilt};
 pub use runner::{Executed, execute};

@@ -1,7 +1,7 @@
 // Executes checked code to its end.
 ghost use Rattle.std.specs.Prelude.{◌≤◌, ◌^◌, [], IfOk};
-ghost use Rattle.cc_core.specs.Source.{Source};
-ghost use Rattle.cc_core.specs.Meaning.{run_of};
+ghost use Rattle.cc_core.specs.StraightSource.{Source};
+ghost use Rattle.cc_core.specs.StraightMeaning.{run_of};
 ghost use Rattle.cc_straight.specs.Straight.{RunsAs};
 ghost use Rattle.cc_straight.specs.Executing.{DoesAs, IsEnding};
 

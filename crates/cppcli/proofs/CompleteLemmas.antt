@@ -1,28 +1,29 @@
--- What `run` comes to where the files tell what is there and no load fails.
+-- What a command comes to where the files tell what is there and no load fails.
 use Rattle.std.proofs.Common.{◌≡◌, inl, inr, ℕ, ◌+◌, ◌≤◌, ◌<◌, List, [], length, take, arith, ap, ◌∙◌, length-take}
 use Rattle.std.specs.Prelude.{Option, Some, None}
-use Rattle.cc_straight.proofs.Laws.{refuses_not_reads}
-use Rattle.cppcli.specs.Answers.{FilesRun, SinksRun, IsLoadFault, IsOutcomeOf, IsDelivered, IsAnswer, source_limit, stopped}
-use Rattle.cppcli.specs.Complete.{LoadsWell, BytesRunTo, RunsTo, RunsAll}
+use Rattle.cc_core.specs.StraightSource.{Source}
+use Rattle.cc_core.specs.StraightMeaning.{run_of}
+use Rattle.cc_straight.proofs.Readings.{refuses_not_reads}
+use Rattle.cppcli.specs.Answers.{FilesRun, SinksRun, IsLoadFault, AfterLoad, AfterCompile, IsDelivered, IsAnswer, source_limit, program_limits, stopped, ended, done}
+use Rattle.cppcli.specs.Complete.{LoadsWell, BytesComeTo, ComesTo, RunsAll, ChecksAll}
 use Rattle.cppcli.specs.declared.outcome.Outcome.{Outcome}
-use Rattle.cppcli.specs.declared.words.Command.TheVariants.{Run}
 use Rattle.cppcli.specs.declared.status.Status.{Status}
 use Rattle.cppcli.specs.declared.status.Status.TheVariants.{Memory, Absent, ReadFault, TooLong}
 
-module _ (run : FilesRun) (file : List ℕ) (well : LoadsWell run file) where
+module _ (result : Source → Outcome) (run : FilesRun) (file : List ℕ) (well : LoadsWell run file) where
   longer : (bytes front : List ℕ) → take (length front) bytes ≡ front → length front ≡ source_limit + 1 → source_limit < length bytes
   longer bytes front begins size =
       let same : length (take (length front) bytes) ≡ length front = ap length begins in
       omega (arith, size, length-take (length front) bytes, same)
 
-  too_long_runs : (bytes : List ℕ) (outcome : Outcome) → source_limit < length bytes → outcome ≡ stopped TooLong file [] → BytesRunTo file bytes outcome
+  too_long_runs : (bytes : List ℕ) (outcome : Outcome) → source_limit < length bytes → outcome ≡ stopped TooLong file [] → BytesComeTo result file bytes outcome
   too_long_runs bytes outcome long due = record {
     too_long = λ _. due;
     accepted = λ short. absurd (omega (arith, long, short));
     refused = λ short. absurd (omega (arith, long, short));
   }
 
-  fault_runs : (there : Option (List ℕ)) (outcome : Outcome) (status : Status) → run.before.gives file ≡ Some there → IsLoadFault run run.before file source_limit status → outcome ≡ stopped status file [] → RunsTo file there outcome
+  fault_runs : (there : Option (List ℕ)) (outcome : Outcome) (status : Status) → run.before.gives file ≡ Some there → IsLoadFault run run.before file source_limit status → outcome ≡ stopped status file [] → ComesTo result file there outcome
   fault_runs None outcome Absent gives fault due = due
   fault_runs (Some bytes) outcome Absent gives fault due = absurd (let lacks = rw gives at fault.0 in cc)
   fault_runs there outcome ReadFault gives fault due = absurd (elim well [ inl none ↦ none fault.0 | inr quiet ↦ fault.1 quiet ])
@@ -30,7 +31,7 @@ module _ (run : FilesRun) (file : List ℕ) (well : LoadsWell run file) where
   fault_runs (Some bytes) outcome TooLong gives fault due = too_long_runs bytes outcome (longer bytes fault.0 (rw gives at fault.1) fault.2) due
   fault_runs there outcome status gives fault due = absurd fault
 
-  runs_to : (there : Option (List ℕ)) (outcome : Outcome) → run.before.gives file ≡ Some there → IsOutcomeOf (record { command = Run; file = file }) run outcome → RunsTo file there outcome
+  runs_to : (there : Option (List ℕ)) (outcome : Outcome) → run.before.gives file ≡ Some there → AfterLoad run run.before file source_limit outcome (λ bytes. AfterCompile file bytes outcome (λ source. outcome ≡ result source)) → ComesTo result file there outcome
   runs_to there outcome gives (inl fault) = fault_runs there outcome outcome.status gives fault.0 fault.1
   runs_to None outcome gives (inr loaded) = absurd (let holds = rw gives at loaded.1 in cc)
   runs_to (Some bytes) outcome gives (inr loaded) =
@@ -61,5 +62,12 @@ pub runs_all : (words : List (List ℕ)) (run : FilesRun) (sinks : SinksRun) (an
 runs_all words run sinks answer is file there words_are gives well =
     elim (rw words_are at is.is_outcome) [
       | inl memory ↦ inl (memory_of is.outcome sinks answer memory is.is_delivered)
-      | inr due ↦ inr (is.outcome, runs_to run file well there is.outcome gives due, is.is_delivered)
+      | inr due ↦ inr (is.outcome, runs_to (λ source. ended (run_of source [] program_limits)) run file well there is.outcome gives due, is.is_delivered)
+    ]
+
+pub checks_all : (words : List (List ℕ)) (run : FilesRun) (sinks : SinksRun) (answer : Status) → IsAnswer words run sinks answer → ChecksAll words run sinks answer
+checks_all words run sinks answer is file there words_are gives well =
+    elim (rw words_are at is.is_outcome) [
+      | inl memory ↦ inl (memory_of is.outcome sinks answer memory is.is_delivered)
+      | inr due ↦ inr (is.outcome, runs_to (λ source. done) run file well there is.outcome gives due, is.is_delivered)
     ]

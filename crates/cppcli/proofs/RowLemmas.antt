@@ -4,13 +4,13 @@ use Rattle.std.specs.Prelude.{Option, Some, None}
 use Rattle.cc_base.specs.Outside.{FilesState, Gains}
 use Rattle.cc_base.specs.declared.running.Ending.{Ending}
 use Rattle.cc_base.specs.declared.running.Ending.TheVariants as ending
-use Rattle.cc_core.specs.Meaning.{run_of}
+use Rattle.cc_core.specs.StraightMeaning.{run_of}
 use Rattle.cppcli.specs.Answers.{FilesRun, SinksRun, IsLoadFault, IsOutcomeOf, IsOutcomeFor, IsDelivered, IsWritten, IsAnswer, source_limit, program_limits, status_of}
-use Rattle.cppcli.specs.Rows.{ForCommand, RefusedFrom, EndedFrom, UsageRow, AbsentRow, ReadFaultRow, WriteFaultRow, TooLongRow, RefusedRow, EndedRow, MemoryRow, AnswerTable}
+use Rattle.cppcli.specs.Rows.{ForCommand, RefusedFrom, EndedFrom, UsageRow, AbsentRow, ReadFaultRow, WriteFaultRow, TooLongRow, RefusedRow, EndedRow, MemoryRow, AnswerTable, DoneFrom, DoneRow}
 use Rattle.cppcli.specs.Words.{CommandLine, command_line}
 use Rattle.cppcli.specs.declared.outcome.Outcome.{Outcome}
 use Rattle.cppcli.specs.declared.words.Command.{Command}
-use Rattle.cppcli.specs.declared.words.Command.TheVariants.{Run}
+use Rattle.cppcli.specs.declared.words.Command.TheVariants.{Run, Check}
 use Rattle.cppcli.specs.declared.status.Status.{Status}
 use Rattle.cppcli.specs.declared.status.Status.TheVariants.{Done, Ended, Usage, Absent, ReadFault, WriteFault, TooLong, Refused, Aborted, HeapLimit, DepthLimit, StepLimit, Going, Memory}
 
@@ -19,6 +19,7 @@ data Stage : Type 0 where
   at_load : Stage
   at_compilation : Stage
   at_execution : Stage
+  at_end : Stage
   elsewhere : Stage
 
 abbrev stage_of : Status → Stage
@@ -30,7 +31,7 @@ stage_of (Ended number) = at_execution
 stage_of (Aborted type message) = at_execution
 stage_of HeapLimit = at_execution
 stage_of DepthLimit = at_execution
-stage_of Done = elsewhere
+stage_of Done = at_end
 stage_of Usage = elsewhere
 stage_of WriteFault = elsewhere
 stage_of StepLimit = elsewhere
@@ -74,6 +75,11 @@ stage_of_command Run file run outcome (inr loaded) is = elim loaded.3 [
   | inl refused ↦ let due : outcome.status ≡ Refused refused.0 refused.1 = ap status_of_outcome refused.3 in let at : stage_of outcome.status ≡ at_compilation = ap stage_of due in cc
   | inr accepted ↦ let ran = run_of accepted.0.0 [] program_limits in let due : outcome.status ≡ status_of (Some ran.ending) = ap status_of_outcome (accepted.1 accepted.0.0 accepted.0.1) in let at : stage_of outcome.status ≡ at_execution = ap stage_of due ∙ stage_of_end ran.ending in cc
 ]
+stage_of_command Check file run outcome (inl fault) is = let at : stage_of outcome.status ≡ at_load = stage_of_load run run.before file source_limit outcome.status fault.0 in cc
+stage_of_command Check file run outcome (inr loaded) is = elim loaded.3 [
+  | inl refused ↦ let due : outcome.status ≡ Refused refused.0 refused.1 = ap status_of_outcome refused.3 in let at : stage_of outcome.status ≡ at_compilation = ap stage_of due in cc
+  | inr accepted ↦ let due : outcome.status ≡ Done = ap status_of_outcome (accepted.1 accepted.0.0 accepted.0.1) in let at : stage_of outcome.status ≡ at_end = ap stage_of due in cc
+]
 
 -- an answer that is no write fault, no want of memory and not about the words is a command's
 record Cause (words : List (List ℕ)) (run : FilesRun) (sinks : SinksRun) (answer : Status) : Type 0 where
@@ -100,6 +106,11 @@ load_fault_of Run file run outcome at (inl fault) = fault.0
 load_fault_of Run file run outcome at (inr loaded) = absurd (elim loaded.3 [
   | inl refused ↦ let due : outcome.status ≡ Refused refused.0 refused.1 = ap status_of_outcome refused.3 in let other : stage_of outcome.status ≡ at_compilation = ap stage_of due in cc
   | inr accepted ↦ let ran = run_of accepted.0.0 [] program_limits in let due : outcome.status ≡ status_of (Some ran.ending) = ap status_of_outcome (accepted.1 accepted.0.0 accepted.0.1) in let other : stage_of outcome.status ≡ at_execution = ap stage_of due ∙ stage_of_end ran.ending in cc
+])
+load_fault_of Check file run outcome at (inl fault) = fault.0
+load_fault_of Check file run outcome at (inr loaded) = absurd (elim loaded.3 [
+  | inl refused ↦ let due : outcome.status ≡ Refused refused.0 refused.1 = ap status_of_outcome refused.3 in let other : stage_of outcome.status ≡ at_compilation = ap stage_of due in cc
+  | inr accepted ↦ let due : outcome.status ≡ Done = ap status_of_outcome (accepted.1 accepted.0.0 accepted.0.1) in let other : stage_of outcome.status ≡ at_end = ap stage_of due in cc
 ])
 
 fault_of_answer : (words : List (List ℕ)) (run : FilesRun) (sinks : SinksRun) (answer status : Status) → answer ≡ status → stage_of status ≡ at_load → Cause words run sinks answer → (line : CommandLine) × (command_line words ≡ Some line) × IsLoadFault run run.before line.file source_limit status
@@ -164,6 +175,15 @@ refused_row words run sinks answer is kind span same = go (cause_of words run si
           (loaded.0, loaded.1, loaded.2, rw (← kinds, ← spans) refused.2)
       | inr accepted ↦ absurd (let ran = run_of accepted.0.0 [] program_limits in let own : outcome.status ≡ status_of (Some ran.ending) = ap status_of_outcome (accepted.1 accepted.0.0 accepted.0.1) in let at : stage_of outcome.status ≡ at_execution = ap stage_of own ∙ stage_of_end ran.ending in let other : stage_of outcome.status ≡ at_compilation = ap stage_of due in cc)
     ]
+    by Check file outcome due (inl fault) = absurd (let at : stage_of outcome.status ≡ at_load = stage_of_load run run.before file source_limit outcome.status fault.0 in let other : stage_of outcome.status ≡ at_compilation = ap stage_of due in cc)
+    by Check file outcome due (inr loaded) = elim loaded.3 [
+      | inl refused ↦
+          let own : outcome.status ≡ Refused refused.0 refused.1 = ap status_of_outcome refused.3 in
+          let kinds : refused.0 ≡ kind = cc in
+          let spans : refused.1 ≡ span = cc in
+          (loaded.0, loaded.1, loaded.2, rw (← kinds, ← spans) refused.2)
+      | inr accepted ↦ absurd (let own : outcome.status ≡ Done = ap status_of_outcome (accepted.1 accepted.0.0 accepted.0.1) in let at : stage_of outcome.status ≡ at_end = ap stage_of own in let other : stage_of outcome.status ≡ at_compilation = ap stage_of due in cc)
+    ]
 
     go : Cause words run sinks answer → ForCommand words (λ line. RefusedFrom run line.file kind span)
     go cause = (cause.line, cause.words_are, by cause.line.command cause.line.file cause.outcome (sym cause.written.as_due ∙ same) cause.due)
@@ -171,18 +191,43 @@ refused_row words run sinks answer is kind span same = go (cause_of words run si
 ended_row : (words : List (List ℕ)) (run : FilesRun) (sinks : SinksRun) (answer : Status) → IsAnswer words run sinks answer → EndedRow words run sinks answer
 ended_row words run sinks answer is number same = go (cause_of words run sinks answer (staged_at answer (Ended number) same (λ other. cc)) is)
   where
-    by : (command : Command) (file : List ℕ) (outcome : Outcome) → outcome.status ≡ Ended number → IsOutcomeOf (record { command = command; file = file }) run outcome → EndedFrom run file number outcome.output
+    by : (command : Command) (file : List ℕ) (outcome : Outcome) → outcome.status ≡ Ended number → IsOutcomeOf (record { command = command; file = file }) run outcome → (command ≡ Run) × EndedFrom run file number outcome.output
     by Run file outcome due (inl fault) = absurd (let at : stage_of outcome.status ≡ at_load = stage_of_load run run.before file source_limit outcome.status fault.0 in let other : stage_of outcome.status ≡ at_execution = ap stage_of due in cc)
     by Run file outcome due (inr loaded) = elim loaded.3 [
       | inl refused ↦ absurd (let own : outcome.status ≡ Refused refused.0 refused.1 = ap status_of_outcome refused.3 in cc)
       | inr accepted ↦
           let ran = run_of accepted.0.0 [] program_limits in
           let own : outcome.status ≡ status_of (Some ran.ending) = ap status_of_outcome (accepted.1 accepted.0.0 accepted.0.1) in
-          (loaded.0, accepted.0.0, loaded.1, accepted.0.1, returned_of ran.ending number (sym own ∙ due), ap output_of_outcome (accepted.1 accepted.0.0 accepted.0.1))
+          (refl, (loaded.0, accepted.0.0, loaded.1, accepted.0.1, returned_of ran.ending number (sym own ∙ due), ap output_of_outcome (accepted.1 accepted.0.0 accepted.0.1)))
+    ]
+    by Check file outcome due (inl fault) = absurd (let at : stage_of outcome.status ≡ at_load = stage_of_load run run.before file source_limit outcome.status fault.0 in let other : stage_of outcome.status ≡ at_execution = ap stage_of due in cc)
+    by Check file outcome due (inr loaded) = elim loaded.3 [
+      | inl refused ↦ absurd (let own : outcome.status ≡ Refused refused.0 refused.1 = ap status_of_outcome refused.3 in cc)
+      | inr accepted ↦ absurd (let own : outcome.status ≡ Done = ap status_of_outcome (accepted.1 accepted.0.0 accepted.0.1) in cc)
     ]
 
-    go : Cause words run sinks answer → ForCommand words (λ line. (printed : List ℕ) × EndedFrom run line.file number printed × Gains sinks.output sinks.output' printed)
-    go cause = (cause.line, cause.words_are, (cause.outcome.output, by cause.line.command cause.line.file cause.outcome (sym cause.written.as_due ∙ same) cause.due, cause.written.output))
+    go : Cause words run sinks answer → ForCommand words (λ line. (line.command ≡ Run) × (printed : List ℕ) × EndedFrom run line.file number printed × Gains sinks.output sinks.output' printed)
+    go cause =
+        let from = by cause.line.command cause.line.file cause.outcome (sym cause.written.as_due ∙ same) cause.due in
+        (cause.line, cause.words_are, (from.0, cause.outcome.output, from.1, cause.written.output))
+
+done_row : (words : List (List ℕ)) (run : FilesRun) (sinks : SinksRun) (answer : Status) → IsAnswer words run sinks answer → DoneRow words run answer
+done_row words run sinks answer is same = go (cause_of words run sinks answer (staged_at answer Done same (λ other. cc)) is)
+  where
+    by : (command : Command) (file : List ℕ) (outcome : Outcome) → outcome.status ≡ Done → IsOutcomeOf (record { command = command; file = file }) run outcome → (command ≡ Check) × DoneFrom run file
+    by Run file outcome due (inl fault) = absurd (let at : stage_of outcome.status ≡ at_load = stage_of_load run run.before file source_limit outcome.status fault.0 in let other : stage_of outcome.status ≡ at_end = ap stage_of due in cc)
+    by Run file outcome due (inr loaded) = elim loaded.3 [
+      | inl refused ↦ absurd (let own : outcome.status ≡ Refused refused.0 refused.1 = ap status_of_outcome refused.3 in cc)
+      | inr accepted ↦ absurd (let ran = run_of accepted.0.0 [] program_limits in let own : outcome.status ≡ status_of (Some ran.ending) = ap status_of_outcome (accepted.1 accepted.0.0 accepted.0.1) in let at : stage_of outcome.status ≡ at_execution = ap stage_of own ∙ stage_of_end ran.ending in let other : stage_of outcome.status ≡ at_end = ap stage_of due in cc)
+    ]
+    by Check file outcome due (inl fault) = absurd (let at : stage_of outcome.status ≡ at_load = stage_of_load run run.before file source_limit outcome.status fault.0 in let other : stage_of outcome.status ≡ at_end = ap stage_of due in cc)
+    by Check file outcome due (inr loaded) = elim loaded.3 [
+      | inl refused ↦ absurd (let own : outcome.status ≡ Refused refused.0 refused.1 = ap status_of_outcome refused.3 in cc)
+      | inr accepted ↦ (refl, (loaded.0, accepted.0.0, loaded.1, loaded.2, accepted.0.1))
+    ]
+
+    go : Cause words run sinks answer → ForCommand words (λ line. (line.command ≡ Check) × DoneFrom run line.file)
+    go cause = (cause.line, cause.words_are, by cause.line.command cause.line.file cause.outcome (sym cause.written.as_due ∙ same) cause.due)
 
 pub answer_table : (words : List (List ℕ)) (run : FilesRun) (sinks : SinksRun) (answer : Status) → IsAnswer words run sinks answer → AnswerTable words run sinks answer
 answer_table words run sinks answer is = record {
@@ -193,5 +238,6 @@ answer_table words run sinks answer is = record {
   too_long = too_long_row words run sinks answer is;
   refused = refused_row words run sinks answer is;
   ended = ended_row words run sinks answer is;
+  done = done_row words run sinks answer is;
   memory = memory_row words run sinks answer is;
 }

@@ -6,16 +6,16 @@ use Rattle.cc_base.specs.declared.text.Span.{Span}
 use Rattle.cc_base.specs.declared.running.Limits.{Limits}
 use Rattle.cc_base.specs.declared.running.Ending.{Ending}
 use Rattle.cc_base.specs.declared.running.Ending.TheVariants as ending
-use Rattle.cc_core.specs.Source.{Source}
-use Rattle.cc_core.specs.Meaning.{Ran, run_of}
+use Rattle.cc_core.specs.StraightSource.{Source}
+use Rattle.cc_core.specs.StraightMeaning.{Ran, run_of}
 use Rattle.cppcli.specs.Notes.{note_of}
 use Rattle.cc_straight.specs.Reading.{Reads, Refuses}
 use Rattle.cppcli.specs.Words.{CommandLine, command_line}
 use Rattle.cppcli.specs.declared.outcome.Outcome.{Outcome}
 use Rattle.cppcli.specs.declared.words.Command.{Command}
-use Rattle.cppcli.specs.declared.words.Command.TheVariants.{Run}
+use Rattle.cppcli.specs.declared.words.Command.TheVariants.{Run, Check}
 use Rattle.cppcli.specs.declared.status.Status.{Status}
-use Rattle.cppcli.specs.declared.status.Status.TheVariants.{Ended, Usage, Absent, ReadFault, WriteFault, TooLong, Refused, Aborted, HeapLimit, DepthLimit, StepLimit, Memory}
+use Rattle.cppcli.specs.declared.status.Status.TheVariants.{Done, Ended, Usage, Absent, ReadFault, WriteFault, TooLong, Refused, Aborted, HeapLimit, DepthLimit, StepLimit, Memory}
 
 -- the longest source, in bytes
 abbrev pub source_limit : ℕ
@@ -40,6 +40,10 @@ status_of None = StepLimit
 -- the outcome of a program that was executed to its end
 abbrev pub ended : Ran → Outcome
 ended ran = record { status = status_of (Some ran.ending); output = ran.output; note = note_of (status_of (Some ran.ending)) [] [] }
+
+-- the outcome of a command that was done and writes nothing
+abbrev pub done : Outcome
+done = record { status = Done; output = []; note = [] }
 
 -- The files as the call found them and as it left them, and whether none of their calls could fail.
 pub record FilesRun : Type 1 where
@@ -81,6 +85,10 @@ IsOutcomeOf line run outcome = by line.command
         AfterLoad run run.before line.file source_limit outcome (λ bytes.
         AfterCompile line.file bytes outcome (λ source.
         outcome ≡ ended (run_of source [] program_limits)))
+    by Check =
+        AfterLoad run run.before line.file source_limit outcome (λ bytes.
+        AfterCompile line.file bytes outcome (λ source.
+        outcome ≡ done))
 
 -- what the words ask for; memory may run out in any command
 abbrev pub IsOutcomeFor : Option CommandLine → FilesRun → Outcome → Type 0
@@ -94,6 +102,7 @@ KeepsFiles (Some line) run = by line.command
   where
     by : Command → Type 0
     by Run = GivesSame run.before run.after
+    by Check = GivesSame run.before run.after
 
 -- The sinks as the call found them and as it left them, and the numbers of bytes that they were sure to take.
 pub record SinksRun : Type 1 where

@@ -4,13 +4,14 @@ use Rattle.cc_base.specs.Outside.{Rose, Holds, HoldsMore, Lacks, Gains}
 use Rattle.cc_base.specs.declared.kind.Kind.{Kind}
 use Rattle.cc_base.specs.declared.text.Span.{Span}
 use Rattle.cc_base.specs.declared.running.Ending.TheVariants.{Returned}
-use Rattle.cc_core.specs.Source.{Source}
-use Rattle.cc_core.specs.Meaning.{run_of}
+use Rattle.cc_core.specs.StraightSource.{Source}
+use Rattle.cc_core.specs.StraightMeaning.{run_of}
 use Rattle.cc_straight.specs.Reading.{Reads, Refuses}
 use Rattle.cppcli.specs.Answers.{FilesRun, SinksRun, source_limit, program_limits}
 use Rattle.cppcli.specs.Words.{CommandLine, command_line}
+use Rattle.cppcli.specs.declared.words.Command.TheVariants.{Run, Check}
 use Rattle.cppcli.specs.declared.status.Status.{Status}
-use Rattle.cppcli.specs.declared.status.Status.TheVariants.{Ended, Usage, Absent, ReadFault, WriteFault, TooLong, Refused, Memory}
+use Rattle.cppcli.specs.declared.status.Status.TheVariants.{Done, Ended, Usage, Absent, ReadFault, WriteFault, TooLong, Refused, Memory}
 
 -- the words are a command, of whose file P holds
 abbrev pub ForCommand : List (List ℕ) → (CommandLine → Type 0) → Type 0
@@ -53,7 +54,15 @@ EndedFrom run file number printed =
 -- a program that has ended is that of the file, and what it prints is written
 abbrev pub EndedRow : List (List ℕ) → FilesRun → SinksRun → Status → Type 0
 EndedRow words run sinks answer = (number : ℤ) → answer ≡ Ended number → ForCommand words (λ line.
-    (printed : List ℕ) × EndedFrom run line.file number printed × Gains sinks.output sinks.output' printed)
+    (line.command ≡ Run) × (printed : List ℕ) × EndedFrom run line.file number printed × Gains sinks.output sinks.output' printed)
+
+-- these files hold bytes under the name that spell a source
+abbrev pub DoneFrom : FilesRun → List ℕ → Type 0
+DoneFrom run file = (bytes : List ℕ) × (source : Source) × Holds run.before file bytes × (length bytes ≤ source_limit) × Reads bytes source
+
+-- a file that was checked is a source
+abbrev pub DoneRow : List (List ℕ) → FilesRun → Status → Type 0
+DoneRow words run answer = answer ≡ Done → ForCommand words (λ line. (line.command ≡ Check) × DoneFrom run line.file)
 
 -- Memory is never the answer where the words are no command
 abbrev pub MemoryRow : List (List ℕ) → Status → Type 0
@@ -68,4 +77,5 @@ pub record AnswerTable (words : List (List ℕ)) (run : FilesRun) (sinks : Sinks
   pub too_long : TooLongRow words run answer
   pub refused : RefusedRow words run answer
   pub ended : EndedRow words run sinks answer
+  pub done : DoneRow words run answer
   pub memory : MemoryRow words answer

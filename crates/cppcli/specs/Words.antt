@@ -3,7 +3,7 @@ use Rattle.std.specs.Prelude.{ℕ, List, [], ◌∷◌, Option, Some, None, if�
 use Rattle.std.specs.Str.{bytes_eq}
 use Rattle.std.specs.Str.Parse.{starts_with_minus}
 use Rattle.cppcli.specs.declared.words.Command.{Command}
-use Rattle.cppcli.specs.declared.words.Command.TheVariants.{Run}
+use Rattle.cppcli.specs.declared.words.Command.TheVariants.{Run, Check}
 
 -- A command and the name of its file.
 pub record CommandLine : Type 0 where
@@ -11,7 +11,7 @@ pub record CommandLine : Type 0 where
   pub file : List ℕ
 
 abbrev pub command_named : List ℕ → Option Command
-command_named word = if bytes_eq word (codes "run") then Some Run else None
+command_named word = if bytes_eq word (codes "run") then Some Run else if bytes_eq word (codes "check") then Some Check else None
 
 -- a command on this file, whose name does not begin with '-'
 abbrev pub command_on : List ℕ → Option Command → Option CommandLine

@@ -1,13 +1,14 @@
 // The commands, each as its steps.
 ghost use Rattle.std.specs.Prelude.{◌≡◌, Some, IfOk};
-ghost use Rattle.cppcli.specs.Answers.{IsOutcomeOf, KeepsFiles, FilesRun};
+ghost use Rattle.cppcli.specs.Answers.{IsOutcomeOf, KeepsFiles, FilesRun, done};
 ghost use Rattle.cc_base.specs.Outside.{GivesSame};
 ghost use Rattle.cppcli.specs.Stops.{IsEnd};
 
+use crate::Status;
 use crate::outcome::{Outcome, Stop};
 use crate::steps::{compile, execute, load};
 use crate::words::{Command, Request};
-use cc_base::Files;
+use cc_base::{Files, List};
 use std::alloc::{AllocError, Global};
 
 /// The longest source, in bytes.
@@ -22,6 +23,26 @@ fn run<F: Files>(alloc: Global, file: &str, files: &mut F) -> Result<Outcome, St
     execute(alloc, code)
 }
 
+// What a command that writes nothing comes to.
+fn done(alloc: Global) -> Outcome
+    ensures { result ≡ done }
+{
+    Outcome {
+        status: Status::Done,
+        output: List::new(alloc),
+        note: List::new(alloc),
+    }
+}
+
+fn check<F: Files>(alloc: Global, file: &str, files: &mut F) -> Result<Outcome, Stop>
+    ensures outcome { IsEnd result (IsOutcomeOf (record { command = Command.Check; file = file.now }) (record { before = F.state files.old; after = F.state files.new; quiet = F.quiet files.old })) }
+    ensures same { GivesSame (F.state files.old) (F.state files.new) }
+{
+    let bytes = load(alloc, files, file, SOURCE_LIMIT)?;
+    let _code = compile(alloc, file, &bytes)?;
+    Ok(done(alloc))
+}
+
 /// Does a command, short of writing.
 pub fn perform<F: Files>(
     alloc: Global,
@@ -33,6 +54,7 @@ pub fn perform<F: Files>(
 {
     let ended = match request.command {
         Command::Run => run(alloc, request.file, files),
+        Command::Check => check(alloc, request.file, files),
     };
     match ended {
         Ok(outcome) => Ok(outcome),

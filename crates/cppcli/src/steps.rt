@@ -1,8 +1,8 @@
 // The steps of the commands.
 ghost use Rattle.std.specs.Prelude.{◌≡◌, ◌≤◌, ◌<◌, ◌^◌, [], List, ℕ, length, MatchResult};
 ghost use Rattle.cc_base.specs.Outside.{GivesSame, Holds};
-ghost use Rattle.cc_core.specs.Source.{Source};
-ghost use Rattle.cc_core.specs.Meaning.{run_of};
+ghost use Rattle.cc_core.specs.StraightSource.{Source};
+ghost use Rattle.cc_core.specs.StraightMeaning.{run_of};
 ghost use Rattle.cppcli.specs.Answers.{FilesRun, IsLoadFault, stopped, status_of, ended, program_limits, ForSource};
 ghost use Rattle.cc_straight.specs.Reading.{Reads, Refuses};
 ghost use Rattle.cppcli.specs.Stops.{IsStop, IsEnd};

@@ -67,37 +67,96 @@ fn nested(alloc: Global, depth: usize) -> Result<String, AllocError> {
     Ok(source)
 }
 
+// The words, a source, and the status, output and note that they come to.
+const SOURCES: [(&str, &str, u8, &str, &str); 12] = [
+    ("run x.cpp", OVERFLOW, 0, "-2147483648\n", ""),
+    ("check x.cpp", OVERFLOW, 0, "", ""),
+    (
+        "run x.cpp",
+        "int main() { return (2 - 5) * 3; }",
+        247,
+        "",
+        "",
+    ),
+    ("run x.cpp", "int main() { return 7 - 2 - 1; }", 4, "", ""),
+    (
+        "check x.cpp",
+        "int main() { return 2147483648; }",
+        245,
+        "",
+        "x.cpp:1:21: error 9 NotYet\n",
+    ),
+    (
+        "check x.cpp",
+        "int f();\nint main() { return 0; }",
+        245,
+        "",
+        "x.cpp:1:1: error 9 NotYet\n",
+    ),
+    (
+        "check x.cpp",
+        "int main() { System::Console::Write(1); return 0; }",
+        245,
+        "",
+        "x.cpp:1:14: error 9 NotYet\n",
+    ),
+    ("run x.cpp", "", 245, "", "x.cpp:1:1: error 9 NotYet\n"),
+    (
+        "run x.cpp",
+        "int main() {\n  return \x01; }",
+        245,
+        "",
+        "x.cpp:2:10: error 1 BadByte\n",
+    ),
+    (
+        "run x.cpp",
+        "int main() { return 0 }",
+        245,
+        "",
+        "x.cpp:1:23: error 10 Syntax\n",
+    ),
+    (
+        "check x.cpp",
+        "int main() { double d; return 0; }",
+        245,
+        "",
+        "x.cpp:1:14: error 14 FloatType\n",
+    ),
+    (
+        "check x.cpp",
+        "int main() { int* p; return 0; }",
+        245,
+        "",
+        "x.cpp:1:17: error 13 NativePointer\n",
+    ),
+];
+
 #[test]
 fn sources_end_or_are_refused(rt: HostRuntime) -> Result<(), Fail> {
     let alloc = rt.alloc();
-    let inner = nested(alloc, 64)?;
-    let deep = nested(alloc, 65)?;
-    let rows = [
-        (OVERFLOW, 0, "-2147483648\n", ""),
-        ("int main() { return (2 - 5) * 3; }", 247, "", ""),
-        ("int main() { return 7 - 2 - 1; }", 4, "", ""),
-        (
-            "int main() { return 2147483648; }",
-            245,
-            "",
-            "x.cpp:1:1: error 9 NotYet\n",
-        ),
-        ("", 245, "", "x.cpp:1:1: error 9 NotYet\n"),
-        (
-            "int main() {\n  return \x01; }",
-            245,
-            "",
-            "x.cpp:2:10: error 1 BadByte\n",
-        ),
-        (inner.as_str(), 7, "", ""),
-        (deep.as_str(), 245, "", "x.cpp:1:1: error 9 NotYet\n"),
-    ];
-    for (source, exit, output, note) in rows {
+    for (line, source, exit, output, note) in SOURCES {
         let mut files = one_file(alloc, source.as_bytes(), 0)?;
-        let written = call(alloc, "run x.cpp", &mut files, 1000)?;
+        let written = call(alloc, line, &mut files, 1000)?;
         assert_eq!(rt; written.status.exit(), exit, "at {source}");
         assert_eq!(rt; written.output.bytes(), output.as_bytes(), "at {source}");
         assert_eq!(rt; written.notes.bytes(), note.as_bytes(), "at {source}");
+    }
+    Ok(())
+}
+
+#[test]
+fn trees_are_at_most_256_deep(rt: HostRuntime) -> Result<(), Fail> {
+    let alloc = rt.alloc();
+    let rows = [
+        ("run x.cpp", 200, 7),
+        ("check x.cpp", 200, 0),
+        ("run x.cpp", 300, 245),
+        ("check x.cpp", 300, 245),
+    ];
+    for (line, depth, exit) in rows {
+        let mut files = one_file(alloc, nested(alloc, depth)?.as_bytes(), 0)?;
+        let written = call(alloc, line, &mut files, 1000)?;
+        assert_eq!(rt; written.status.exit(), exit, "at {depth}");
     }
     Ok(())
 }
@@ -111,9 +170,14 @@ fn words_and_faults_have_their_answers(rt: HostRuntime) -> Result<(), Fail> {
         ("run", 0, 240, "", usage),
         ("run x.cpp y.cpp", 0, 240, "", usage),
         ("run -x.cpp", 0, 240, "", usage),
-        ("check x.cpp", 0, 240, "", usage),
+        ("check", 0, 240, "", usage),
+        ("check x.cpp y.cpp", 0, 240, "", usage),
+        ("check --all x.cpp", 0, 240, "", usage),
+        ("build x.cpp", 0, 240, "", usage),
         ("--help", 0, 240, "", usage),
         ("run y.cpp", 0, 241, "", "y.cpp: absent\n"),
+        ("check y.cpp", 0, 241, "", "y.cpp: absent\n"),
+        ("check x.cpp", 1, 242, "", "read fault\n"),
         ("run x.cpp", 1, 242, "", "read fault\n"),
         ("run x.cpp", 0, 243, "-2", ""),
     ];
@@ -136,7 +200,7 @@ fn a_source_has_at_most_1048576_bytes(rt: HostRuntime) -> Result<(), Fail> {
     ];
     for (length, note) in rows {
         let mut files = one_file(alloc, &blanks(alloc, length)?, 0)?;
-        let written = call(alloc, "run x.cpp", &mut files, 0)?;
+        let written = call(alloc, "check x.cpp", &mut files, 0)?;
         assert_eq!(rt; written.notes.bytes(), note.as_bytes(), "at {length}");
     }
     Ok(())

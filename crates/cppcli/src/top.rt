@@ -1,7 +1,7 @@
 // The call that is the program.
 ghost use Rattle.std.specs.Prelude.{◌≡◌, List, ℕ, map, string_bytes};
 ghost use Rattle.cppcli.specs.Answers.{IsAnswer, FilesRun, SinksRun};
-ghost use Rattle.cppcli.specs.Complete.{RunsAll};
+ghost use Rattle.cppcli.specs.Complete.{RunsAll, ChecksAll};
 ghost use Rattle.cppcli.specs.Rows.{AnswerTable};
 
 use crate::Status;
@@ -57,6 +57,8 @@ pub fn cppcli<F: Files, I: Source, O: Sink, E: Sink>(
     ensures answer { IsAnswer (map (λ word. string_bytes word) words.now) (record { before = F.state files.old; after = F.state files.new; quiet = F.quiet files.old })
         (record { output = O.state output.old; output' = O.state output.new; output_takes = O.quiet output.old; notes = E.state notes.old; notes' = E.state notes.new; notes_takes = E.quiet notes.old }) result }
     ensures table { AnswerTable (map (λ word. string_bytes word) words.now) (record { before = F.state files.old; after = F.state files.new; quiet = F.quiet files.old })
+        (record { output = O.state output.old; output' = O.state output.new; output_takes = O.quiet output.old; notes = E.state notes.old; notes' = E.state notes.new; notes_takes = E.quiet notes.old }) result }
+    ensures checks { ChecksAll (map (λ word. string_bytes word) words.now) (record { before = F.state files.old; after = F.state files.new; quiet = F.quiet files.old })
         (record { output = O.state output.old; output' = O.state output.new; output_takes = O.quiet output.old; notes = E.state notes.old; notes' = E.state notes.new; notes_takes = E.quiet notes.old }) result }
     ensures complete { RunsAll (map (λ word. string_bytes word) words.now) (record { before = F.state files.old; after = F.state files.new; quiet = F.quiet files.old })
         (record { output = O.state output.old; output' = O.state output.new; output_takes = O.quiet output.old; notes = E.state notes.old; notes' = E.state notes.new; notes_takes = E.quiet notes.old }) result }

@@ -8,6 +8,8 @@ ghost use Rattle.cppcli.specs.Words.{command_named, command_line};
 pub enum Command {
     /// Compiles a file and executes it.
     Run,
+    /// Compiles a file.
+    Check,
 }
 
 /// A command and the name of its file.
@@ -22,6 +24,7 @@ fn command_named(word: &str) -> Option<Command>
 {
     match word {
         "run" => Some(Command::Run),
+        "check" => Some(Command::Check),
         _ => None,
     }
 }

@@ -1,4 +1,4 @@
-use Rattle.std.proofs.Common.{rules, arith}
+use Rattle.std.proofs.Common.{arith}
 use Rattle.std.proofs.lemmas.List.{take_more}
 use Rattle.cc_straight.proofs.Executes.{code_more}
 use Rattle.cc_straight.proofs.emit.emit.Goals as goal

@@ -1,4 +1,4 @@
-use Rattle.std.proofs.Common.{rules, sym, ◌∙◌}
+use Rattle.std.proofs.Common.{◌∙◌}
 use Rattle.cc_straight.proofs.Ending.{does}
 use Rattle.cc_straight.proofs.runner.execute.Goals as goal
 

@@ -1,0 +1,6 @@
+pub mod Found
+pub mod Tables
+mod Follows
+mod Grown
+mod Turns
+mod Whole

@@ -1,0 +1,5 @@
+use Rattle.std.proofs.Common.{◌≡◌, sum_by, take, length}
+use Rattle.cc_core.proofs.classes.count_methods.Given as goal
+
+abbrev pub invariant-loop-class : goal.invariant-loop-class
+invariant-loop-class l = l.sum ≡ sum_by (λ class. length class.methods) (take l.class-index l.classes)
