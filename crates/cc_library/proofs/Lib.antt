@@ -1,0 +1,4 @@
+pub mod Decoding
+pub mod Digits
+pub mod Parts
+pub mod Written

@@ -1,0 +1,5 @@
+pub mod Laws
+pub mod Parsing
+pub mod Reading
+pub mod Numerals
+pub mod Texts
