@@ -1,0 +1,5 @@
+pub mod Contents
+pub mod Fields
+pub mod Joined
+pub mod Loops
+pub mod Sections

@@ -1,0 +1,3 @@
+pub mod Headers
+pub mod ImageFaults
+pub mod Images
