@@ -1,0 +1,4 @@
+pub mod Apps
+pub mod Counts
+pub mod Lines
+pub mod Mapped
