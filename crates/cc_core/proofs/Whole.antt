@@ -17,7 +17,7 @@ use Rattle.cc_core.specs.Step.{Step}
 use Rattle.cc_core.specs.Bare.{step_of}
 use Rattle.cc_core.specs.Run.{Ran, Does, in_world}
 use Rattle.cc_core.specs.Outcome.{outcome_of}
-use Rattle.cc_core.specs.Frames.{body_for, zeros_of, end_value, entered, left, returned, in_frame, enter, call_body, calls_with}
+use Rattle.cc_core.specs.Frames.{body_for, variables_of, end_value, entered, left, returned, in_frame, enter, call_body, calls_with}
 use Rattle.cc_core.specs.SourceRun.{ended, going, wrong, Meaning, finish_of, meaning_of, aborted, uncaught, start}
 use Rattle.cc_core.specs.Laws as law
 use Rattle.cc_core.proofs.Grown.{Grown, same_front, same_grown, grown_on, given_grows}
@@ -39,40 +39,40 @@ returned_continues type (Err HeapLimit, s) r' h = subst (λ r. Continues {A = Va
 returned_continues type (Err DepthLimit, s) r' h = subst (λ r. Continues {A = Value} (Err DepthLimit, s) (returned type r)) h refl
 returned_continues type (Err Wrong, s) r' h = subst (λ r. Continues {A = Value} (Err Wrong, s) (returned type r)) h refl
 
--- what is restored in the world at the end of a call was neither printed nor told
-left_grown : (before s : State) → Grown s (in_world (left before.world.variables before.world.callers) s)
-left_grown before s = record { output = same_front s.world.output; events = same_front s.world.events; work = (same_grown s).work }
+-- a frame that is entered or left changes nothing that was printed or told
+left_grown : (s : State) → Grown s (in_world left s)
+left_grown s = record { output = same_front s.world.output; events = same_front s.world.events; work = (same_grown s).work }
 
-frame_grown : (before : State) (r : Ran Value) → Grown r.1 (in_frame before r).1
-frame_grown before (r, s) = left_grown before s
+frame_grown : (r : Ran Value) → Grown r.1 (in_frame r).1
+frame_grown (r, s) = left_grown s
 
-left_on : (before : State) {s t : State} → Grown s t → Grown (in_world (left before.world.variables before.world.callers) s) t
-left_on before g = record { output = g.output; events = g.events; work = g.work }
+left_on : {s t : State} → Grown s t → Grown (in_world left s) t
+left_on g = record { output = g.output; events = g.events; work = g.work }
 
-frame_continues : (before : State) (r r' : Ran Value) → Continues r r' → Continues (in_frame before r) (in_frame before r')
-frame_continues before (Ok v, s) r' h = ap (in_frame before) h
-frame_continues before (Err Going, s) r' h = left_on before (grown_on h (frame_grown before r'))
-frame_continues before (Err (Throws at), s) r' h = ap (in_frame before) h
-frame_continues before (Err HeapLimit, s) r' h = ap (in_frame before) h
-frame_continues before (Err DepthLimit, s) r' h = ap (in_frame before) h
-frame_continues before (Err Wrong, s) r' h = ap (in_frame before) h
+frame_continues : (r r' : Ran Value) → Continues r r' → Continues (in_frame r) (in_frame r')
+frame_continues (Ok v, s) r' h = ap in_frame h
+frame_continues (Err Going, s) r' h = left_on (grown_on h (frame_grown r'))
+frame_continues (Err (Throws at), s) r' h = ap in_frame h
+frame_continues (Err HeapLimit, s) r' h = ap in_frame h
+frame_continues (Err DepthLimit, s) r' h = ap in_frame h
+frame_continues (Err Wrong, s) r' h = ap in_frame h
 
 entered_on : (variables : List Value) {s t : State} → Grown (in_world (entered variables) s) t → Grown s t
 entered_on variables g = record { output = g.output; events = g.events; work = g.work }
 
-enter_follows : (zeros : Option (List Value)) (arguments : List Value) (type : CoreType) (go go' : Step → Does Exit) (body : Step) → Follows (go body) (go' body)
-    → Follows (enter zeros arguments type go body) (enter zeros arguments type go' body)
-enter_follows None arguments type go go' body h = wrong_follows
-enter_follows (Some zeros) arguments type go go' body h = record {
-  by = λ s. frame_continues s _ _ (returned_continues type _ _ (h.by (in_world (entered (arguments ++ zeros)) s)));
-  grows = λ s. let r = go' body (in_world (entered (arguments ++ zeros)) s) in
-      grown_on (entered_on (arguments ++ zeros) (h.grows (in_world (entered (arguments ++ zeros)) s))) (grown_on (returned_grown type r) (frame_grown s (returned type r)));
+enter_follows : (variables : Option (List Value)) (type : CoreType) (go go' : Step → Does Exit) (body : Step) → Follows (go body) (go' body)
+    → Follows (enter variables type go body) (enter variables type go' body)
+enter_follows None type go go' body h = wrong_follows
+enter_follows (Some variables) type go go' body h = record {
+  by = λ s. frame_continues _ _ (returned_continues type _ _ (h.by (in_world (entered variables) s)));
+  grows = λ s. let r = go' body (in_world (entered variables) s) in
+      grown_on (entered_on variables (h.grows (in_world (entered variables) s))) (grown_on (returned_grown type r) (frame_grown (returned type r)));
 }
 
 body_follows : (go go' : Step → Does Exit) (b : Option FunctionBody) (arguments : List Value) → ((a : Step) → Follows (go a) (go' a)) → Follows (call_body go b arguments) (call_body go' b arguments)
 body_follows go go' None arguments h = wrong_follows
 body_follows go go' (Some b) arguments h =
-    tick_follows (enter_follows (zeros_of (drop (length arguments) b.locals)) arguments b.result go go' (step_of b.body) (h (step_of b.body)))
+    tick_follows (enter_follows (variables_of b.locals arguments) b.result go go' (step_of b.body) (h (step_of b.body)))
 
 module _ (w : List ClassInfo) (bodies : List FunctionBody) (n m : ℕ) (le : n ≤ m) where
   pub calls_follow : (frames : ℕ) → CallsFollow (calls_with w bodies n frames) (calls_with w bodies m frames)

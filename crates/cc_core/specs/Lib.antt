@@ -16,5 +16,7 @@ pub mod Step
 pub mod StraightMeaning
 pub mod StraightSource
 pub mod Term
+pub mod Typed
+pub mod TypedLaws
 pub mod Types
 pub mod Value

@@ -8,6 +8,7 @@ mod laws;
 mod library;
 mod library_call;
 mod named;
+mod program;
 mod same;
 mod search;
 mod state;
@@ -22,6 +23,7 @@ pub use fault::ClassesFault;
 pub use laws::larger_bound_continues;
 pub use library::OBJECT;
 pub use library_call::{LibraryCall, Printed};
+pub use program::Program;
 pub use state::{Computed, Exit, Held, Root, State, Stop, Target};
 pub use straight::{StraightOperation, StraightOperator, StraightProgram};
 pub use tree::{

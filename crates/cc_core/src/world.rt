@@ -1,5 +1,5 @@
 // The world that a run changes.
-use cc_base::{ClassId, Event, FieldId, Text};
+use cc_base::{ClassId, Event, FieldId, List, Text};
 use sqlite_items::Items;
 
 /// Where a place begins.
@@ -89,7 +89,7 @@ pub struct World {
     /// The bytes of the input that were not read yet.
     pub input: Items<u8>,
     /// What was told of the numbered objects.
-    pub events: Items<Event>,
+    pub events: List<Event>,
     /// The objects that are not to be finalised, by their places in the heap.
     pub suppressed: Items<usize>,
 }
