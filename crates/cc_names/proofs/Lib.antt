@@ -1,0 +1,16 @@
+pub mod Adding
+pub mod Assembled
+pub mod Chains
+pub mod Directed
+pub mod Firsts
+pub mod Gathering
+pub mod Indexed
+pub mod Keyed
+pub mod Marking
+pub mod Marks
+pub mod Outers
+pub mod Pieces
+pub mod Leading
+pub mod Searching
+pub mod Spellings
+pub mod Together

@@ -1,0 +1,196 @@
+// What classes are refused for: their bases (ECMA-372, 21.1, 22.1 and 24.1).
+ghost use Rattle.std.specs.Prelude.{◌≡◌, List, [], ◌∷◌, ◌&&◌, not, map, Some, IfOk, OnOk};
+ghost use Rattle.std.specs.List.{list_any};
+ghost use Rattle.std.specs.Option.{option_copied};
+ghost use Rattle.std.specs.Str.{bytes_eq};
+ghost use Rattle.cc_names.specs.Checks.{run};
+ghost use Rattle.cc_names.specs.Classes as spec;
+ghost use Rattle.cc_names.specs.Spelling.{spelling};
+ghost use Rattle.cc_names.specs.Spaces.{space};
+
+use crate::find_type::Here;
+use crate::forming::is_array;
+use crate::known::{Form, Known};
+use crate::refusal::{NameKind, Refusal, refused_if};
+use crate::spelling::spelling;
+use cc_base::{List, Name};
+use cc_tree::{Base, Class, ClassWord, TypeName};
+use std::alloc::{AllocError, Global};
+
+/// What a base is to a class that derives from it.
+#[derive(Clone, Copy)]
+pub(crate) enum BaseSort {
+    /// Nothing is known of it, since it is refused as a name.
+    Unknown,
+    Class,
+    Interface,
+    /// A type from which no class derives.
+    Closed,
+}
+
+fn open_sort(form: Form) -> BaseSort
+    ensures { result ≡ spec.open_sort form }
+{
+    match form {
+        Form::Value => BaseSort::Closed,
+        Form::Handle => BaseSort::Class,
+        Form::Interface => BaseSort::Interface,
+        Form::NamedOnly => BaseSort::Closed,
+    }
+}
+
+fn known_sort(known: Option<&Known>) -> BaseSort
+    ensures { result ≡ spec.known_sort (option_copied known.entry) }
+{
+    match known {
+        None => BaseSort::Unknown,
+        Some(known) => {
+            if known.is_open {
+                open_sort(known.form)
+            } else {
+                BaseSort::Closed
+            }
+        }
+    }
+}
+
+fn is_unknown(sort: BaseSort) -> bool
+    ensures { result ≡ spec.is_unknown sort }
+{
+    match sort {
+        BaseSort::Unknown => true,
+        BaseSort::Class => false,
+        BaseSort::Interface => false,
+        BaseSort::Closed => false,
+    }
+}
+
+fn is_class(sort: BaseSort) -> bool
+    ensures { result ≡ spec.is_class sort }
+{
+    match sort {
+        BaseSort::Unknown => false,
+        BaseSort::Class => true,
+        BaseSort::Interface => false,
+        BaseSort::Closed => false,
+    }
+}
+
+fn is_closed(sort: BaseSort) -> bool
+    ensures { result ≡ spec.is_closed sort }
+{
+    match sort {
+        BaseSort::Unknown => false,
+        BaseSort::Class => false,
+        BaseSort::Interface => false,
+        BaseSort::Closed => true,
+    }
+}
+
+/// Whether a class may derive from a class, and not from interfaces alone.
+fn takes_class(word: ClassWord) -> bool
+    ensures { result ≡ spec.takes_class word }
+{
+    match word {
+        ClassWord::Ref => true,
+        ClassWord::Value => false,
+        ClassWord::Interface => false,
+    }
+}
+
+/// Whether a name is among some.
+fn is_among(names: &[Name], name: &[u8]) -> bool
+    ensures { result ≡ list_any (λ other. bytes_eq other name.now) names.now }
+{
+    for other in names {
+        if other.as_slice() == name {
+            return true;
+        }
+    }
+    false
+}
+
+/// The bases of a class that come before one: their spellings, and whether a class is among them.
+#[derive(Drop)]
+pub(crate) struct Earlier {
+    pub(crate) spellings: List<Name>,
+    pub(crate) has_class: bool,
+}
+
+impl Earlier {
+    /// Whether a class cannot have a base of a sort and a spelling after these.
+    fn refuses(&self, word: ClassWord, sort: BaseSort, spelled: &[u8]) -> bool
+        ensures { result ≡ spec.is_sealed_base word sort spelled.now self.now }
+    {
+        is_closed(sort)
+            || is_among(self.spellings.as_slice(), spelled)
+            || (is_class(sort) && (!takes_class(word) || self.has_class))
+    }
+}
+
+impl Here<'_> {
+    /// What a base is to a class that derives from it.
+    fn base_sort(&self, of: &TypeName) -> BaseSort
+        ensures { result ≡ spec.sort_of_base (space self.now.space.now) self.now.path.now of.now }
+    {
+        match of {
+            TypeName::Fundamental(_, _) => BaseSort::Unknown,
+            TypeName::Named(names, name, _, span) => {
+                let names = names.as_slice();
+                let name = name.name.as_slice();
+                if is_array(names, name) {
+                    BaseSort::Closed
+                } else {
+                    known_sort(self.found_type(span.first, names, name))
+                }
+            }
+            TypeName::Marked(_, _, _, _) => BaseSort::Unknown,
+        }
+    }
+
+    /// What a base is refused for, after the earlier ones of its class; adds it to these.
+    fn base(
+        &self,
+        so_far: Option<Refusal>,
+        alloc: Global,
+        class: &Class,
+        earlier: &mut Earlier,
+        base: &Base,
+    ) -> Result<Option<Refusal>, AllocError>
+        ensures refused { IfOk result (λ first. first ≡ run (spec.base_checks (space self.now.space.now) self.now.path.now «class».now earlier.old base.now) so_far) }
+        ensures added { OnOk result (earlier.new ≡ spec.with_base (space self.now.space.now) self.now.path.now earlier.old base.now) }
+    {
+        let sort = self.base_sort(&base.of);
+        let spelled = spelling(alloc, &base.of)?;
+        let name = class.name.name.as_slice();
+        let is_cyclic = self.space.bases.leads(alloc, spelled.as_slice(), name)?;
+        let is_sealed = earlier.refuses(class.key.word, sort, spelled.as_slice());
+        let is_disposal = !is_unknown(sort) && spelled.as_slice() == b"IDisposable".as_slice();
+        let first = refused_if(so_far, is_cyclic, NameKind::CyclicBase, base.span);
+        let first = refused_if(first, is_sealed, NameKind::SealedBase, base.span);
+        let first = refused_if(first, is_disposal, NameKind::ReservedMember, base.span);
+        earlier.has_class = earlier.has_class || is_class(sort);
+        earlier.spellings.push(spelled)?;
+        Ok(first)
+    }
+
+    /// What the bases of a class are refused for.
+    pub(crate) fn base_classes(
+        &self,
+        so_far: Option<Refusal>,
+        alloc: Global,
+        class: &Class,
+    ) -> Result<Option<Refusal>, AllocError>
+        ensures { IfOk result (λ first. first ≡ run (spec.bases_checks (space self.now.space.now) self.now.path.now «class».now spec.no_bases «class».now.bases) so_far) }
+    {
+        let mut earlier = Earlier {
+            spellings: List::new(alloc),
+            has_class: false,
+        };
+        let mut first = so_far;
+        'bases: for base in class.bases.as_slice() {
+            first = self.base(first, alloc, class, &mut earlier, base)?;
+        }
+        Ok(first)
+    }
+}
