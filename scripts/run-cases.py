@@ -64,7 +64,7 @@ def run(program, name, cases):
 def main():
     program = os.path.abspath(sys.argv[1])
     tables = [run(program, name, table_cases(name)) for name in ['syntax.jsonl', 'deep.jsonl']]
-    folders = [run(program, name, folder_cases(name)) for name in ['front']]
+    folders = [run(program, name, folder_cases(name)) for name in ['front', 'program']]
     sys.exit(0 if all(tables + folders) else 1)
 
 

@@ -1,4 +1,5 @@
 pub mod Adding
+pub mod Allowed
 pub mod Blocks
 pub mod Compiled
 pub mod Ending
@@ -6,6 +7,7 @@ pub mod Executes
 pub mod LinesAdded
 pub mod Opened
 pub mod Paths
+pub mod Plain
 pub mod Readings
 pub mod Refused
 pub mod Spelled

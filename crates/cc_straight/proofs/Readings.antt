@@ -1,6 +1,6 @@
 -- A tree is straight or has a first node that isn't built. A text spells at most one straight source, and one that is refused spells none.
 use Rattle.std.proofs.Common.{◌≡◌, ◌⊎◌, inl, inr, ℕ, List, [], ◌∷◌, refl, sym, ap, subst, ◌∙◌, append_assoc, arith}
-use Rattle.std.specs.Prelude.{Option, Some, None, Ok, Err, false}
+use Rattle.std.specs.Prelude.{Option, Some, None, Result, Ok, Err, false}
 use Rattle.cc_base.specs.declared.text.Span.{Span}
 use Rattle.cc_base.specs.declared.kind.Kind.{Kind}
 use Rattle.cc_tree.specs.declared.token.Token.{Token}
@@ -19,7 +19,9 @@ use Rattle.cc_lexer.proofs.OneReading.{spelled_once}
 use Rattle.cc_core.specs.StraightSource.{Source}
 use Rattle.cc_straight.specs.Form.{Judged, IsStraight, FirstUnbuilt, unit_source}
 use Rattle.cc_straight.specs.Laws.{StraightOrUnbuilt, NeverBoth, OneSource, RefusedReadsNone}
-use Rattle.cc_straight.specs.Reading.{lexical, parsing, not_yet}
+use Rattle.cc_names.specs.Refusals as names
+use Rattle.cc_template.specs.Walk.{counted}
+use Rattle.cc_straight.specs.Reading.{Purpose, execution, checking, Reads, IsUnbuilt, lexical, parsing, not_yet, naming, expanding, not_typed}
 
 abbrev IsTokens : Reading → Type 0
 IsTokens (Ok tokens) = Unit {0}
@@ -80,18 +82,36 @@ refuses_no_tree tokens tree (fault.OutsideProfile span) why place h e accepted =
 refuses_no_tree tokens tree (fault.FloatType span) why place h e accepted = not_scanned tokens tree _ h accepted
 refuses_no_tree tokens tree (fault.MixedMode span) why place h e accepted = not_scanned tokens tree _ h accepted
 
-abbrev IsUnbuilt : Judged Source → Type 0
-IsUnbuilt (Ok source) = ⊥
-IsUnbuilt (Err span) = Unit {0}
+abbrev IsUnbuiltForm : Judged Source → Type 0
+IsUnbuiltForm (Ok source) = ⊥
+IsUnbuiltForm (Err span) = Unit {0}
+
+-- a text that is read as a source has its tree
+same_tree : (text : List ℕ) (tokens : List Token) (tree : unit.Unit) (source : Source) → Spelled text (Ok tokens) → Accepts tokens tree → (reading : Reads text source) → tree ≡ reading.tree
+same_tree text tokens tree source spelled accepted reading =
+    one_accepted tokens tree reading.tree accepted (subst (λ ts. Accepts ts reading.tree) (one_text text reading.tokens tokens reading.lexed spelled) reading.parsed)
+
+abbrev IsCount : Result ℕ Span → Type 0
+IsCount (Ok count) = Unit {0}
+IsCount (Err span) = ⊥
+
+-- a tree with a node that isn't built is no source
+unbuilt_not_straight : (purpose : Purpose) (tree : unit.Unit) (place : Span) (source : Source) → IsUnbuilt purpose tree place → unit_source tree ≡ Ok source → ⊥
+unbuilt_not_straight execution tree place source unbuilt straight = subst IsUnbuiltForm (sym unbuilt ∙ straight) tt
+unbuilt_not_straight checking tree place source ((span, unbuilt), first) straight = subst IsUnbuiltForm (sym unbuilt ∙ straight) tt
 
 pub refuses_not_reads : RefusedReadsNone
-refuses_not_reads text why place source (lexical e) reading = subst IsTokens (spelled_once text (Ok reading.tokens) (Err (why, place)) reading.lexed e) tt
-refuses_not_reads text why place source (parsing tokens found spelled refused e) reading =
+refuses_not_reads purpose text why place source (lexical e) reading = subst IsTokens (spelled_once text (Ok reading.tokens) (Err (why, place)) reading.lexed e) tt
+refuses_not_reads purpose text why place source (parsing tokens found spelled refused e) reading =
     refuses_no_tree tokens reading.tree found why place refused e (subst (λ ts. Accepts ts reading.tree) (one_text text reading.tokens tokens reading.lexed spelled) reading.parsed)
-refuses_not_reads text why place source (not_yet tokens tree spelled accepted unbuilt) reading =
-    let same = one_text text reading.tokens tokens reading.lexed spelled in
-    let tree_is = one_accepted tokens tree reading.tree accepted (subst (λ ts. Accepts ts reading.tree) same reading.parsed) in
-    subst IsUnbuilt (sym unbuilt ∙ ap unit_source tree_is ∙ reading.straight) tt
+refuses_not_reads purpose text why place source (not_yet tokens tree spelled accepted unbuilt) reading =
+    unbuilt_not_straight purpose tree place source unbuilt (ap unit_source (same_tree text tokens tree source spelled accepted reading) ∙ reading.straight)
+refuses_not_reads purpose text why place source (naming tokens tree spelled accepted formed refused) reading =
+    subst IsNoRefusal (sym reading.named ∙ ap names.refusal (sym (same_tree text tokens tree source spelled accepted reading)) ∙ refused) tt
+refuses_not_reads purpose text why place source (expanding tokens tree spelled accepted formed named plain many) reading =
+    subst IsCount (sym reading.fits.1 ∙ ap counted (sym (same_tree text tokens tree source spelled accepted reading)) ∙ many) tt
+refuses_not_reads purpose text why place source (not_typed tokens tree spelled accepted formed named sized unbuilt) reading =
+    subst IsUnbuiltForm (sym unbuilt ∙ ap unit_source (same_tree text tokens tree source spelled accepted reading) ∙ reading.straight) tt
 
 pub straight_or_unbuilt : StraightOrUnbuilt
 straight_or_unbuilt tree = go (unit_source tree) refl
@@ -101,4 +121,4 @@ straight_or_unbuilt tree = go (unit_source tree) refl
     go (Err span) e = inr (span, e)
 
 pub never_both : NeverBoth
-never_both tree source span straight unbuilt = subst IsUnbuilt (sym unbuilt ∙ straight) tt
+never_both tree source span straight unbuilt = subst IsUnbuiltForm (sym unbuilt ∙ straight) tt

@@ -101,7 +101,7 @@ outer_small most (g.function_ {function = function} p) deep outers s h =
     function_small most p (let d = function_deep function in omega (arith, deep, d)) outers s (sym (ap (λ x. first_source x outers) (o.outs-Function function)) ∙ h)
 
 -- a straight unit has one declaration
-two_fail : (l : Outer-F Outer) (two : Outer) (outers : List Outer) (s : Source) → first_source l (two ∷ outers) ≡ Ok s → ⊥
+pub two_fail : (l : Outer-F Outer) (two : Outer) (outers : List Outer) (s : Source) → first_source l (two ∷ outers) ≡ Ok s → ⊥
 two_fail (layer.Function function) two outers s h = go function.body h
   where
     go : (body : Option Block) → main_source function body (two ∷ outers) ≡ Ok s → ⊥
@@ -115,7 +115,7 @@ outers_small most g.none deep s h = absurd (not_both refl h)
 outers_small most (g.last p) deep s h = outer_small most p (omega (arith, deep)) [] s h
 outers_small most (g.more {one = one} {two = two} {outers = outers} p q) deep s h = absurd (two_fail (out-Outer one) two outers s h)
 
-function_first : (b : Bool) (inner : Judged Source) (of : Span) (s : Source) → (if b then inner else Err of) ≡ Ok s → inner ≡ Ok s
+pub function_first : (b : Bool) (inner : Judged Source) (of : Span) (s : Source) → (if b then inner else Err of) ≡ Ok s → inner ≡ Ok s
 function_first true inner of s h = h
 function_first false inner of s h = absurd (not_both refl h)
 

@@ -5,7 +5,7 @@ use Rattle.cc_base.specs.declared.kind.Kind.{Kind}
 use Rattle.cc_tree.specs.declared.unit.Unit as unit
 use Rattle.cc_core.specs.StraightSource.{Source}
 use Rattle.cc_straight.specs.Form.{IsStraight, FirstUnbuilt}
-use Rattle.cc_straight.specs.Reading.{Reads, Refuses}
+use Rattle.cc_straight.specs.Reading.{Purpose, Reads, Refuses}
 
 -- A tree is straight, or it has a first node that isn't built.
 abbrev pub StraightOrUnbuilt : Type 0
@@ -19,6 +19,6 @@ NeverBoth = (tree : unit.Unit) (source : Source) (span : Span) → IsStraight tr
 abbrev pub OneSource : Type 0
 OneSource = (text : List ℕ) (a b : Source) → Reads text a → Reads text b → a ≡ b
 
--- A text that is refused spells no straight source.
+-- A text that is refused, to be executed or to be checked, spells no straight source.
 abbrev pub RefusedReadsNone : Type 0
-RefusedReadsNone = (text : List ℕ) (why : Kind) (place : Span) (source : Source) → Refuses text why place → Reads text source → ⊥
+RefusedReadsNone = (purpose : Purpose) (text : List ℕ) (why : Kind) (place : Span) (source : Source) → Refuses purpose text why place → Reads text source → ⊥

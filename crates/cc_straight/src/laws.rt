@@ -7,7 +7,7 @@ pub fn straight_or_unbuilt()
     ensures never_both { spec.NeverBoth }
 {}
 
-/// A text spells at most one straight program, and one that is refused spells none.
+/// A text spells at most one straight program, and one that is refused, to be executed or to be checked, spells none.
 pub fn one_source()
     ensures one { spec.OneSource }
     ensures refused { spec.RefusedReadsNone }

@@ -1,11 +1,11 @@
 // Executes checked code to its end.
-ghost use Rattle.std.specs.Prelude.{◌≤◌, ◌^◌, [], IfOk};
+ghost use Rattle.std.specs.Prelude.{◌<◌, ◌^◌, length, IfOk};
+ghost use Rattle.std.specs.List.{All};
 ghost use Rattle.cc_core.specs.StraightSource.{Source};
-ghost use Rattle.cc_core.specs.StraightMeaning.{run_of};
 ghost use Rattle.cc_straight.specs.Straight.{RunsAs};
-ghost use Rattle.cc_straight.specs.Executing.{DoesAs, IsEnding};
+ghost use Rattle.cc_straight.specs.Executing.{DoesWithin, IsEnding};
 
-use cc_base::{Ending, Limits, List};
+use cc_base::{Ending, Limits, List, Text};
 use cc_machine::{Checked, Machine, Stop};
 use std::alloc::{AllocError, Global};
 
@@ -28,17 +28,21 @@ fn ending_of(stop: Stop) -> Result<Option<Ending>, AllocError>
     }
 }
 
-/// Executes at most `steps` instructions of checked code, without arguments and input. The code of a straight source has
-/// at most 2,097,152 instructions: with so many steps, output and ending are those of the source.
+/// Executes at most `steps` instructions of checked code, with these arguments and without input. For the code of a
+/// straight source output and ending are those of its run, where that has no more instructions; else there is no ending,
+/// and the output is a front of the run's.
 pub fn execute(
     alloc: Global,
     code: Checked,
+    arguments: &[Text],
     limits: Limits,
     steps: u64,
 ) -> Result<Executed, AllocError>
-    ensures { IfOk result (λ executed. (source : Source) → RunsAs code source → 2 ^ 21 ≤ steps → DoesAs executed (run_of source [] limits)) }
+    requires count { length arguments.now < 2 ^ 32 }
+    requires texts { All (λ text. length text < 2 ^ 32) arguments.now }
+    ensures { IfOk result (λ executed. (source : Source) → RunsAs code source → DoesWithin executed source arguments.now limits steps) }
 {
-    let mut machine = Machine::new(alloc, code, &[], limits)?;
+    let mut machine = Machine::new(alloc, code, arguments, limits)?;
     let ending = ending_of(machine.run(&[], steps))?;
     let output = List::from_slice(alloc, machine.output())?;
     Ok(Executed { output, ending })

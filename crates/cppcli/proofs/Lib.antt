@@ -1,4 +1,5 @@
 pub mod AnswerLemmas
-pub mod StepLemmas
+pub mod CodeLemmas
 pub mod CompleteLemmas
 pub mod RowLemmas
+pub mod StepLemmas

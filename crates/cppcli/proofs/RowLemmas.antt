@@ -1,16 +1,21 @@
 -- What each answer tells: the rows that follow from the contract of the program.
-use Rattle.std.proofs.Common.{◌≡◌, ◌≢◌, ◌⊎◌, inl, inr, ℕ, ℤ, List, [], refl, ap, ◌∙◌, sym}
-use Rattle.std.specs.Prelude.{Option, Some, None}
-use Rattle.cc_base.specs.Outside.{FilesState, Gains}
+use Rattle.std.proofs.Common.{◌≡◌, ◌≢◌, ◌⊎◌, ◌≤◌, ◌<◌, inl, inr, ℕ, ℤ, List, [], refl, ap, ◌∙◌, sym, arith}
+use Rattle.std.specs.Prelude.{Bool, true, false, Option, Some, None, is_some}
+use Rattle.cc_base.specs.Outside.{FilesState, Gains, Rose}
+use Rattle.cc_base.specs.declared.kind.Kind.{Kind}
+use Rattle.cc_base.specs.declared.text.Span.{Span}
 use Rattle.cc_base.specs.declared.running.Ending.{Ending}
 use Rattle.cc_base.specs.declared.running.Ending.TheVariants as ending
+use Rattle.cc_core.specs.StraightSource.{Source}
 use Rattle.cc_core.specs.StraightMeaning.{run_of}
-use Rattle.cppcli.specs.Answers.{FilesRun, SinksRun, IsLoadFault, IsOutcomeOf, IsOutcomeFor, IsDelivered, IsWritten, IsAnswer, source_limit, program_limits, status_of}
-use Rattle.cppcli.specs.Rows.{ForCommand, RefusedFrom, EndedFrom, UsageRow, AbsentRow, ReadFaultRow, WriteFaultRow, TooLongRow, RefusedRow, EndedRow, MemoryRow, AnswerTable, DoneFrom, DoneRow}
-use Rattle.cppcli.specs.Words.{CommandLine, command_line}
+use Rattle.cc_straight.specs.Executing.{run_length}
+use Rattle.cc_words.specs.Words.{CommandLine, command_line, first_command}
+use Rattle.cc_words.specs.declared.command.Command.{Command}
+use Rattle.cc_words.specs.declared.command.Command.TheVariants.{Run, Check, Build}
+use Rattle.cppcli.specs.Answers.{FilesRun, SinksRun, AfterCompile, AfterLoad, IsBuilt, IsExecuted, IsLoadFault, IsOutcome, IsOutcomeOf, IsOutcomeFor, IsDelivered, IsWritten, IsAnswer, arguments_of, image_name, longest_run, source_limit, program_limits, status_of}
+use Rattle.cppcli.specs.Complete.{IsResult, purpose_of}
+use Rattle.cppcli.specs.Rows.{AcceptedFrom, ForCommand, RefusedFrom, Returns, StoreFails, UsageRow, AbsentRow, ReadFaultRow, WriteFaultRow, TooLongRow, RefusedRow, EndedRow, StepLimitRow, MemoryRow, AnswerTable, DoneRow}
 use Rattle.cppcli.specs.declared.outcome.Outcome.{Outcome}
-use Rattle.cppcli.specs.declared.words.Command.{Command}
-use Rattle.cppcli.specs.declared.words.Command.TheVariants.{Run, Check}
 use Rattle.cppcli.specs.declared.status.Status.{Status}
 use Rattle.cppcli.specs.declared.status.Status.TheVariants.{Done, Ended, Usage, Absent, ReadFault, WriteFault, TooLong, Refused, Aborted, HeapLimit, DepthLimit, StepLimit, Going, Memory}
 
@@ -19,6 +24,7 @@ data Stage : Type 0 where
   at_load : Stage
   at_compilation : Stage
   at_execution : Stage
+  at_store : Stage
   at_end : Stage
   elsewhere : Stage
 
@@ -31,12 +37,27 @@ stage_of (Ended number) = at_execution
 stage_of (Aborted type message) = at_execution
 stage_of HeapLimit = at_execution
 stage_of DepthLimit = at_execution
+stage_of StepLimit = at_execution
+stage_of WriteFault = at_store
 stage_of Done = at_end
 stage_of Usage = elsewhere
-stage_of WriteFault = elsewhere
-stage_of StepLimit = elsewhere
 stage_of Going = elsewhere
 stage_of Memory = elsewhere
+
+-- behind the compilation
+abbrev is_late : Stage → Bool
+is_late at_load = false
+is_late at_compilation = false
+is_late at_execution = true
+is_late at_store = true
+is_late at_end = true
+is_late elsewhere = false
+
+abbrev status_of_outcome : Outcome → Status
+status_of_outcome outcome = outcome.status
+
+abbrev output_of_outcome : Outcome → List ℕ
+output_of_outcome outcome = outcome.output
 
 stage_of_load : (run : FilesRun) (files : FilesState) (name : List ℕ) (limit : ℕ) (status : Status) → IsLoadFault run files name limit status → stage_of status ≡ at_load
 stage_of_load run files name limit Absent fault = refl
@@ -56,11 +77,67 @@ returned_of (ending.Aborted type message) number same = cc
 returned_of ending.HeapLimit number same = cc
 returned_of ending.DepthLimit number same = cc
 
-abbrev status_of_outcome : Outcome → Status
-status_of_outcome outcome = outcome.status
+stage_of_execution : (source : Source) (arguments : List (List ℕ)) (steps : ℕ) (outcome : Outcome) → IsExecuted source arguments steps outcome → stage_of outcome.status ≡ at_execution
+stage_of_execution source arguments steps outcome (inl (enough, is)) = ap (λ (o : Outcome). stage_of o.status) is ∙ stage_of_end (run_of source arguments program_limits).ending
+stage_of_execution source arguments steps outcome (inr (few, short, (printed, more, front, is))) = ap (λ (o : Outcome). stage_of o.status) is
 
-abbrev output_of_outcome : Outcome → List ℕ
-output_of_outcome outcome = outcome.output
+-- what a command makes of a source comes behind the compilation
+late : (command : Command) (file : List ℕ) (steps : ℕ) (arguments : List (List ℕ)) (run : FilesRun) (source : Source) (outcome : Outcome)
+    → IsResult (record { command = command; file = file; steps = steps; arguments = arguments }) run source outcome → is_late (stage_of outcome.status) ≡ true
+late Run file steps arguments run source outcome is = ap is_late (stage_of_execution source (arguments_of (record { command = Run; file = file; steps = steps; arguments = arguments })) steps outcome is)
+late Check file steps arguments run source outcome is = ap (λ (o : Outcome). is_late (stage_of o.status)) is
+late Build file steps arguments run source outcome (bytes, image, inl (rose, loud, is)) = ap (λ (o : Outcome). is_late (stage_of o.status)) is
+late Build file steps arguments run source outcome (bytes, image, inr (kept, is)) = ap (λ (o : Outcome). is_late (stage_of o.status)) is
+
+-- the steps that all commands have
+abbrev pub Due : CommandLine → FilesRun → Outcome → Type 0
+Due line run outcome = AfterLoad run run.before line.file source_limit outcome (λ bytes. AfterCompile (purpose_of line.command) line.file bytes outcome (λ source. IsResult line run source outcome))
+
+pub due_of : (command : Command) (file : List ℕ) (steps : ℕ) (arguments : List (List ℕ)) (run : FilesRun) (outcome : Outcome)
+    → IsOutcomeOf (record { command = command; file = file; steps = steps; arguments = arguments }) run outcome → Due (record { command = command; file = file; steps = steps; arguments = arguments }) run outcome
+due_of Run file steps arguments run outcome is = is
+due_of Check file steps arguments run outcome is = is
+due_of Build file steps arguments run outcome is = is
+
+-- an outcome by its stage
+at_its_load : (line : CommandLine) (run : FilesRun) (outcome : Outcome) → stage_of outcome.status ≡ at_load → Due line run outcome → IsLoadFault run run.before line.file source_limit outcome.status
+at_its_load line run outcome at (inl fault) = fault.0
+at_its_load line run outcome at (inr loaded) = absurd (elim loaded.3 [
+  | inl refused ↦ let due : outcome.status ≡ Refused refused.0 refused.1 = ap status_of_outcome refused.3 in let other : stage_of outcome.status ≡ at_compilation = ap stage_of due in cc
+  | inr accepted ↦ let behind = late line.command line.file line.steps line.arguments run accepted.0.0 outcome (accepted.1 accepted.0.0 accepted.0.1) in let before : is_late (stage_of outcome.status) ≡ false = ap is_late at in cc
+])
+
+at_its_compilation : (line : CommandLine) (run : FilesRun) (outcome : Outcome) (kind : Kind) (span : Span) → outcome.status ≡ Refused kind span → Due line run outcome → RefusedFrom run line kind span
+at_its_compilation line run outcome kind span is (inl fault) = absurd (let at : stage_of outcome.status ≡ at_load = stage_of_load run run.before line.file source_limit outcome.status fault.0 in let other : stage_of outcome.status ≡ at_compilation = ap stage_of is in cc)
+at_its_compilation line run outcome kind span is (inr loaded) = elim loaded.3 [
+  | inl refused ↦
+      let own : outcome.status ≡ Refused refused.0 refused.1 = ap status_of_outcome refused.3 in
+      let kinds : refused.0 ≡ kind = cc in
+      let spans : refused.1 ≡ span = cc in
+      (loaded.0, loaded.1, loaded.2, rw (← kinds, ← spans) refused.2)
+  | inr accepted ↦ absurd (let behind = late line.command line.file line.steps line.arguments run accepted.0.0 outcome (accepted.1 accepted.0.0 accepted.0.1) in let before : is_late (stage_of outcome.status) ≡ false = ap (λ (s : Status). is_late (stage_of s)) is in cc)
+]
+
+-- the source that a late outcome is of
+record Late (line : CommandLine) (run : FilesRun) (outcome : Outcome) : Type 0 where
+  source : Source
+  accepted : AcceptedFrom run line.file source
+  result : IsResult line run source outcome
+
+at_its_result : (line : CommandLine) (run : FilesRun) (outcome : Outcome) → is_late (stage_of outcome.status) ≡ true → Due line run outcome → Late line run outcome
+at_its_result line run outcome behind (inl fault) = absurd (let at : is_late (stage_of outcome.status) ≡ false = ap is_late (stage_of_load run run.before line.file source_limit outcome.status fault.0) in cc)
+at_its_result line run outcome behind (inr loaded) = elim loaded.3 [
+  | inl refused ↦ absurd (let at : is_late (stage_of outcome.status) ≡ false = ap (λ (o : Outcome). is_late (stage_of o.status)) refused.3 in cc)
+  | inr accepted ↦ record { source = accepted.0.0; accepted = (loaded.0, loaded.1, loaded.2, accepted.0.1); result = accepted.1 accepted.0.0 accepted.0.1 }
+]
+
+-- a command's outcome is neither about the words nor want of memory
+not_elsewhere : (line : CommandLine) (run : FilesRun) (outcome : Outcome) → Due line run outcome → stage_of outcome.status ≢ elsewhere
+not_elsewhere line run outcome (inl fault) is = let at : stage_of outcome.status ≡ at_load = stage_of_load run run.before line.file source_limit outcome.status fault.0 in cc
+not_elsewhere line run outcome (inr loaded) is = elim loaded.3 [
+  | inl refused ↦ let at : stage_of outcome.status ≡ at_compilation = ap (λ (o : Outcome). stage_of o.status) refused.3 in cc
+  | inr accepted ↦ let behind = late line.command line.file line.steps line.arguments run accepted.0.0 outcome (accepted.1 accepted.0.0 accepted.0.1) in let before : is_late (stage_of outcome.status) ≡ false = ap is_late is in cc
+]
 
 -- a status that is no write fault was due, and all was written
 written_of : (outcome : Outcome) (sinks : SinksRun) (answer : Status) → answer ≢ WriteFault → IsDelivered outcome sinks answer → IsWritten outcome sinks answer
@@ -68,166 +145,167 @@ written_of outcome sinks answer other (inl written) = written
 written_of outcome sinks answer other (inr (inl cut)) = absurd (other cut.as_fault)
 written_of outcome sinks answer other (inr (inr cut)) = absurd (other cut.as_fault)
 
--- a command's outcome comes from one of its stages
-stage_of_command : (command : Command) (file : List ℕ) (run : FilesRun) (outcome : Outcome) → IsOutcomeOf (record { command = command; file = file }) run outcome → stage_of outcome.status ≢ elsewhere
-stage_of_command Run file run outcome (inl fault) is = let at : stage_of outcome.status ≡ at_load = stage_of_load run run.before file source_limit outcome.status fault.0 in cc
-stage_of_command Run file run outcome (inr loaded) is = elim loaded.3 [
-  | inl refused ↦ let due : outcome.status ≡ Refused refused.0 refused.1 = ap status_of_outcome refused.3 in let at : stage_of outcome.status ≡ at_compilation = ap stage_of due in cc
-  | inr accepted ↦ let ran = run_of accepted.0.0 [] program_limits in let due : outcome.status ≡ status_of (Some ran.ending) = ap status_of_outcome (accepted.1 accepted.0.0 accepted.0.1) in let at : stage_of outcome.status ≡ at_execution = ap stage_of due ∙ stage_of_end ran.ending in cc
-]
-stage_of_command Check file run outcome (inl fault) is = let at : stage_of outcome.status ≡ at_load = stage_of_load run run.before file source_limit outcome.status fault.0 in cc
-stage_of_command Check file run outcome (inr loaded) is = elim loaded.3 [
-  | inl refused ↦ let due : outcome.status ≡ Refused refused.0 refused.1 = ap status_of_outcome refused.3 in let at : stage_of outcome.status ≡ at_compilation = ap stage_of due in cc
-  | inr accepted ↦ let due : outcome.status ≡ Done = ap status_of_outcome (accepted.1 accepted.0.0 accepted.0.1) in let at : stage_of outcome.status ≡ at_end = ap stage_of due in cc
-]
-
--- an answer that is no write fault, no want of memory and not about the words is a command's
-record Cause (words : List (List ℕ)) (run : FilesRun) (sinks : SinksRun) (answer : Status) : Type 0 where
+-- an outcome that is neither about the words nor want of memory is a command's
+record Cause (words : List (List ℕ)) (run : FilesRun) (outcome : Outcome) : Type 0 where
   line : CommandLine
   words_are : command_line words ≡ Some line
-  outcome : Outcome
-  due : IsOutcomeOf line run outcome
-  written : IsWritten outcome sinks answer
+  due : Due line run outcome
 
-cause_of : (words : List (List ℕ)) (run : FilesRun) (sinks : SinksRun) (answer : Status) → stage_of answer ≢ elsewhere → IsAnswer words run sinks answer → Cause words run sinks answer
-cause_of words run sinks answer staged is = go (command_line words) refl is.is_outcome
+cause_of : (words : List (List ℕ)) (run : FilesRun) (outcome : Outcome) → stage_of outcome.status ≢ elsewhere → IsOutcome words run outcome → Cause words run outcome
+cause_of words run outcome staged (inl memory) = absurd (staged (ap (λ (o : Outcome). stage_of o.status) memory.0))
+cause_of words run outcome staged (inr is) = go (command_line words) refl is
   where
-    written : IsWritten is.outcome sinks answer
-    written = written_of is.outcome sinks answer (λ same. staged (ap stage_of same)) is.is_delivered
+    go : (order : Option CommandLine) → command_line words ≡ order → IsOutcomeFor order run outcome → Cause words run outcome
+    go None same usage = absurd (staged (ap (λ (o : Outcome). stage_of o.status) usage))
+    go (Some line) same due = record { line = line; words_are = same; due = due_of line.command line.file line.steps line.arguments run outcome due }
 
-    go : (order : Option CommandLine) → command_line words ≡ order → IsOutcomeFor order run is.outcome → Cause words run sinks answer
-    go None same usage = absurd (staged (ap stage_of (written.as_due ∙ ap status_of_outcome usage)))
-    go (Some line) same (inl memory) = absurd (staged (ap stage_of (written.as_due ∙ ap status_of_outcome memory)))
-    go (Some line) same (inr due) = record { line = line; words_are = same; outcome = is.outcome; due = due; written = written }
+-- the cause of an answer that is no write fault, and its outcome's status
+record Told (words : List (List ℕ)) (run : FilesRun) (sinks : SinksRun) (status : Status) : Type 0 where
+  outcome : Outcome
+  is : outcome.status ≡ status
+  cause : Cause words run outcome
+  written : IsWritten outcome sinks status
 
--- an outcome of the stage that loads is a fault of the load
-load_fault_of : (command : Command) (file : List ℕ) (run : FilesRun) (outcome : Outcome) → stage_of outcome.status ≡ at_load → IsOutcomeOf (record { command = command; file = file }) run outcome → IsLoadFault run run.before file source_limit outcome.status
-load_fault_of Run file run outcome at (inl fault) = fault.0
-load_fault_of Run file run outcome at (inr loaded) = absurd (elim loaded.3 [
-  | inl refused ↦ let due : outcome.status ≡ Refused refused.0 refused.1 = ap status_of_outcome refused.3 in let other : stage_of outcome.status ≡ at_compilation = ap stage_of due in cc
-  | inr accepted ↦ let ran = run_of accepted.0.0 [] program_limits in let due : outcome.status ≡ status_of (Some ran.ending) = ap status_of_outcome (accepted.1 accepted.0.0 accepted.0.1) in let other : stage_of outcome.status ≡ at_execution = ap stage_of due ∙ stage_of_end ran.ending in cc
-])
-load_fault_of Check file run outcome at (inl fault) = fault.0
-load_fault_of Check file run outcome at (inr loaded) = absurd (elim loaded.3 [
-  | inl refused ↦ let due : outcome.status ≡ Refused refused.0 refused.1 = ap status_of_outcome refused.3 in let other : stage_of outcome.status ≡ at_compilation = ap stage_of due in cc
-  | inr accepted ↦ let due : outcome.status ≡ Done = ap status_of_outcome (accepted.1 accepted.0.0 accepted.0.1) in let other : stage_of outcome.status ≡ at_end = ap stage_of due in cc
-])
+told_of : (words : List (List ℕ)) (run : FilesRun) (sinks : SinksRun) (answer status : Status) → answer ≡ status → status ≢ WriteFault → stage_of status ≢ elsewhere → IsAnswer words run sinks answer → Told words run sinks status
+told_of words run sinks answer status same other staged is =
+    let written = written_of is.outcome sinks answer (λ fault. other (sym same ∙ fault)) is.is_delivered in
+    let due : is.outcome.status ≡ status = sym written.as_due ∙ same in
+    record {
+      outcome = is.outcome;
+      is = due;
+      cause = cause_of words run is.outcome (λ at. staged (ap stage_of (sym due) ∙ at)) is.is_outcome;
+      written = rw (← same) written;
+    }
 
-fault_of_answer : (words : List (List ℕ)) (run : FilesRun) (sinks : SinksRun) (answer status : Status) → answer ≡ status → stage_of status ≡ at_load → Cause words run sinks answer → (line : CommandLine) × (command_line words ≡ Some line) × IsLoadFault run run.before line.file source_limit status
-fault_of_answer words run sinks answer status same at cause =
-    let due : cause.outcome.status ≡ status = sym cause.written.as_due ∙ same in
-    (cause.line, cause.words_are, rw (← due) (load_fault_of cause.line.command cause.line.file run cause.outcome (ap stage_of due ∙ at) cause.due))
+load_row : (words : List (List ℕ)) (run : FilesRun) (sinks : SinksRun) (status : Status) → stage_of status ≡ at_load → Told words run sinks status → ForCommand words (λ line. IsLoadFault run run.before line.file source_limit status)
+load_row words run sinks status at told =
+    let cause = told.cause in
+    (cause.line, cause.words_are, rw (← told.is) (at_its_load cause.line run told.outcome (ap stage_of told.is ∙ at) cause.due))
 
-staged_at : (answer status : Status) → answer ≡ status → stage_of status ≢ elsewhere → stage_of answer ≢ elsewhere
-staged_at answer status same staged other = staged (ap stage_of (sym same) ∙ other)
+late_of : (words : List (List ℕ)) (run : FilesRun) (sinks : SinksRun) (status : Status) → is_late (stage_of status) ≡ true → (told : Told words run sinks status) → Late told.cause.line run told.outcome
+late_of words run sinks status at told = at_its_result told.cause.line run told.outcome (ap (λ (s : Status). is_late (stage_of s)) told.is ∙ at) told.cause.due
 
 absent_row : (words : List (List ℕ)) (run : FilesRun) (sinks : SinksRun) (answer : Status) → IsAnswer words run sinks answer → AbsentRow words run answer
-absent_row words run sinks answer is same = fault_of_answer words run sinks answer Absent same refl (cause_of words run sinks answer (staged_at answer Absent same (λ other. cc)) is)
+absent_row words run sinks answer is same = load_row words run sinks Absent refl (told_of words run sinks answer Absent same (λ other. cc) (λ other. cc) is)
 
 read_fault_row : (words : List (List ℕ)) (run : FilesRun) (sinks : SinksRun) (answer : Status) → IsAnswer words run sinks answer → ReadFaultRow words run answer
-read_fault_row words run sinks answer is same = fault_of_answer words run sinks answer ReadFault same refl (cause_of words run sinks answer (staged_at answer ReadFault same (λ other. cc)) is)
+read_fault_row words run sinks answer is same = load_row words run sinks ReadFault refl (told_of words run sinks answer ReadFault same (λ other. cc) (λ other. cc) is)
 
 too_long_row : (words : List (List ℕ)) (run : FilesRun) (sinks : SinksRun) (answer : Status) → IsAnswer words run sinks answer → TooLongRow words run answer
-too_long_row words run sinks answer is same = fault_of_answer words run sinks answer TooLong same refl (cause_of words run sinks answer (staged_at answer TooLong same (λ other. cc)) is)
+too_long_row words run sinks answer is same = load_row words run sinks TooLong refl (told_of words run sinks answer TooLong same (λ other. cc) (λ other. cc) is)
 
 usage_row : (words : List (List ℕ)) (run : FilesRun) (sinks : SinksRun) (answer : Status) → IsAnswer words run sinks answer → UsageRow words answer
-usage_row words run sinks answer is = record { only = λ usage. only usage (command_line words) refl is.is_outcome; always = λ none. always none is.is_delivered }
+usage_row words run sinks answer is = record { only = only; always = λ none. always none is.is_outcome is.is_delivered }
   where
-    only : answer ≡ Usage → (order : Option CommandLine) → command_line words ≡ order → IsOutcomeFor order run is.outcome → command_line words ≡ None
-    only usage None same due = same
-    only usage (Some line) same due =
-        let written : IsWritten is.outcome sinks answer = written_of is.outcome sinks answer (λ fault. cc) is.is_delivered in
-        let status : is.outcome.status ≡ Usage = sym written.as_due ∙ usage in
-        absurd (elim due [
-          | inl memory ↦ let other : is.outcome.status ≡ Memory = ap status_of_outcome memory in cc
-          | inr outcome ↦ stage_of_command line.command line.file run is.outcome outcome (ap stage_of status)
-        ])
+    go : (order : Option CommandLine) → command_line words ≡ order → IsOutcomeFor order run is.outcome → is.outcome.status ≡ Usage → command_line words ≡ None
+    go None same due status = same
+    go (Some line) same due status = absurd (not_elsewhere line run is.outcome (due_of line.command line.file line.steps line.arguments run is.outcome due) (ap stage_of status))
 
-    always : command_line words ≡ None → IsDelivered is.outcome sinks answer → (answer ≡ Usage) ⊎ (answer ≡ WriteFault)
-    always none (inl written) = let usage = rw none at is.is_outcome in inl (written.as_due ∙ ap status_of_outcome usage)
-    always none (inr (inl cut)) = inr cut.as_fault
-    always none (inr (inr cut)) = inr cut.as_fault
+    only : answer ≡ Usage → command_line words ≡ None
+    only usage =
+        let written = written_of is.outcome sinks answer (λ fault. cc) is.is_delivered in
+        let status : is.outcome.status ≡ Usage = sym written.as_due ∙ usage in
+        elim is.is_outcome [
+          | inl memory ↦ absurd (let other : is.outcome.status ≡ Memory = ap status_of_outcome memory.0 in cc)
+          | inr due ↦ go (command_line words) refl due status
+        ]
+
+    always : command_line words ≡ None → IsOutcome words run is.outcome → IsDelivered is.outcome sinks answer → (answer ≡ Usage) ⊎ ((answer ≡ WriteFault) ⊎ ((answer ≡ Memory) × (is_some (first_command words) ≡ true)))
+    always none (inl memory) (inl written) = inr (inr (written.as_due ∙ ap status_of_outcome memory.0, memory.1))
+    always none (inr due) (inl written) = let usage = rw none at due in inl (written.as_due ∙ ap status_of_outcome usage)
+    always none due (inr (inl cut)) = inr (inl cut.as_fault)
+    always none due (inr (inr cut)) = inr (inl cut.as_fault)
 
 memory_row : (words : List (List ℕ)) (run : FilesRun) (sinks : SinksRun) (answer : Status) → IsAnswer words run sinks answer → MemoryRow words answer
-memory_row words run sinks answer is none memory = elim ((usage_row words run sinks answer is).always none) [ inl usage ↦ cc | inr fault ↦ cc ]
-
-write_fault_row : (words : List (List ℕ)) (run : FilesRun) (sinks : SinksRun) (answer : Status) → IsAnswer words run sinks answer → WriteFaultRow sinks answer
-write_fault_row words run sinks answer is fault = elim is.is_delivered [
-  | inl written ↦ absurd (go (command_line words) is.is_outcome (sym written.as_due ∙ fault))
-  | inr cut ↦ elim cut [ inl output ↦ inl output.cause | inr note ↦ inr note.cause ]
-]
+memory_row words run sinks answer is memory =
+    let written = written_of is.outcome sinks answer (λ fault. cc) is.is_delivered in
+    let status : is.outcome.status ≡ Memory = sym written.as_due ∙ memory in
+    elim is.is_outcome [ inl out ↦ out.1 | inr due ↦ absurd (go (command_line words) due status) ]
   where
-    go : (order : Option CommandLine) → IsOutcomeFor order run is.outcome → is.outcome.status ≡ WriteFault → ⊥
+    go : (order : Option CommandLine) → IsOutcomeFor order run is.outcome → is.outcome.status ≡ Memory → ⊥
     go None usage status = let other : is.outcome.status ≡ Usage = ap status_of_outcome usage in cc
-    go (Some line) (inl memory) status = let other : is.outcome.status ≡ Memory = ap status_of_outcome memory in cc
-    go (Some line) (inr outcome) status = stage_of_command line.command line.file run is.outcome outcome (ap stage_of status)
+    go (Some line) due status = not_elsewhere line run is.outcome (due_of line.command line.file line.steps line.arguments run is.outcome due) (ap stage_of status)
+
+-- a write fault that is due is a store's
+stored_result : (command : Command) (file : List ℕ) (steps : ℕ) (arguments : List (List ℕ)) (run : FilesRun) (source : Source) (outcome : Outcome) → outcome.status ≡ WriteFault
+    → IsResult (record { command = command; file = file; steps = steps; arguments = arguments }) run source outcome → StoreFails run (record { command = command; file = file; steps = steps; arguments = arguments })
+stored_result Run file steps arguments run source outcome status is = absurd (let at = stage_of_execution source (arguments_of (record { command = Run; file = file; steps = steps; arguments = arguments })) steps outcome is in let other : stage_of outcome.status ≡ at_store = ap stage_of status in cc)
+stored_result Check file steps arguments run source outcome status is = absurd (let other : outcome.status ≡ Done = ap status_of_outcome is in cc)
+stored_result Build file steps arguments run source outcome status (bytes, image, inl (rose, loud, is)) = (refl, rose, loud)
+stored_result Build file steps arguments run source outcome status (bytes, image, inr (kept, is)) = absurd (let other : outcome.status ≡ Done = ap status_of_outcome is in cc)
+
+write_fault_row : (words : List (List ℕ)) (run : FilesRun) (sinks : SinksRun) (answer : Status) → IsAnswer words run sinks answer → WriteFaultRow words run sinks answer
+write_fault_row words run sinks answer is fault = elim is.is_delivered [
+  | inl written ↦
+      let status : is.outcome.status ≡ WriteFault = sym written.as_due ∙ fault in
+      let cause = cause_of words run is.outcome (λ at. let other : stage_of is.outcome.status ≡ at_store = ap stage_of status in cc) is.is_outcome in
+      let late_is = at_its_result cause.line run is.outcome (ap (λ (s : Status). is_late (stage_of s)) status) cause.due in
+      inr (cause.line, cause.words_are, stored_result cause.line.command cause.line.file cause.line.steps cause.line.arguments run late_is.source is.outcome status late_is.result)
+  | inr cut ↦ elim cut [ inl output ↦ inl (inl output.cause) | inr note ↦ inl (inr note.cause) ]
+]
 
 refused_row : (words : List (List ℕ)) (run : FilesRun) (sinks : SinksRun) (answer : Status) → IsAnswer words run sinks answer → RefusedRow words run answer
-refused_row words run sinks answer is kind span same = go (cause_of words run sinks answer (staged_at answer (Refused kind span) same (λ other. cc)) is)
-  where
-    by : (command : Command) (file : List ℕ) (outcome : Outcome) → outcome.status ≡ Refused kind span → IsOutcomeOf (record { command = command; file = file }) run outcome → RefusedFrom run file kind span
-    by Run file outcome due (inl fault) = absurd (let at : stage_of outcome.status ≡ at_load = stage_of_load run run.before file source_limit outcome.status fault.0 in let other : stage_of outcome.status ≡ at_compilation = ap stage_of due in cc)
-    by Run file outcome due (inr loaded) = elim loaded.3 [
-      | inl refused ↦
-          let own : outcome.status ≡ Refused refused.0 refused.1 = ap status_of_outcome refused.3 in
-          let kinds : refused.0 ≡ kind = cc in
-          let spans : refused.1 ≡ span = cc in
-          (loaded.0, loaded.1, loaded.2, rw (← kinds, ← spans) refused.2)
-      | inr accepted ↦ absurd (let ran = run_of accepted.0.0 [] program_limits in let own : outcome.status ≡ status_of (Some ran.ending) = ap status_of_outcome (accepted.1 accepted.0.0 accepted.0.1) in let at : stage_of outcome.status ≡ at_execution = ap stage_of own ∙ stage_of_end ran.ending in let other : stage_of outcome.status ≡ at_compilation = ap stage_of due in cc)
-    ]
-    by Check file outcome due (inl fault) = absurd (let at : stage_of outcome.status ≡ at_load = stage_of_load run run.before file source_limit outcome.status fault.0 in let other : stage_of outcome.status ≡ at_compilation = ap stage_of due in cc)
-    by Check file outcome due (inr loaded) = elim loaded.3 [
-      | inl refused ↦
-          let own : outcome.status ≡ Refused refused.0 refused.1 = ap status_of_outcome refused.3 in
-          let kinds : refused.0 ≡ kind = cc in
-          let spans : refused.1 ≡ span = cc in
-          (loaded.0, loaded.1, loaded.2, rw (← kinds, ← spans) refused.2)
-      | inr accepted ↦ absurd (let own : outcome.status ≡ Done = ap status_of_outcome (accepted.1 accepted.0.0 accepted.0.1) in let at : stage_of outcome.status ≡ at_end = ap stage_of own in let other : stage_of outcome.status ≡ at_compilation = ap stage_of due in cc)
-    ]
+refused_row words run sinks answer is kind span same =
+    let told = told_of words run sinks answer (Refused kind span) same (λ other. cc) (λ other. cc) is in
+    (told.cause.line, told.cause.words_are, at_its_compilation told.cause.line run told.outcome kind span told.is told.cause.due)
 
-    go : Cause words run sinks answer → ForCommand words (λ line. RefusedFrom run line.file kind span)
-    go cause = (cause.line, cause.words_are, by cause.line.command cause.line.file cause.outcome (sym cause.written.as_due ∙ same) cause.due)
+-- what returned a number is an execution
+ended_result : (command : Command) (file : List ℕ) (steps : ℕ) (arguments : List (List ℕ)) (run : FilesRun) (source : Source) (outcome : Outcome) (number : ℤ) → outcome.status ≡ Ended number
+    → IsResult (record { command = command; file = file; steps = steps; arguments = arguments }) run source outcome
+    → (command ≡ Run) × Returns (record { command = command; file = file; steps = steps; arguments = arguments }) source number outcome.output
+ended_result Run file steps arguments run source outcome number status (inl (enough, is)) =
+    let ran = run_of source (arguments_of (record { command = Run; file = file; steps = steps; arguments = arguments })) program_limits in
+    (refl, (enough, returned_of ran.ending number (sym (ap status_of_outcome is) ∙ status), ap output_of_outcome is))
+ended_result Run file steps arguments run source outcome number status (inr (few, short, (printed, more, front, is))) = absurd (let other : outcome.status ≡ StepLimit = ap status_of_outcome is in cc)
+ended_result Check file steps arguments run source outcome number status is = absurd (let other : outcome.status ≡ Done = ap status_of_outcome is in cc)
+ended_result Build file steps arguments run source outcome number status (bytes, image, inl (rose, loud, is)) = absurd (let other : outcome.status ≡ WriteFault = ap status_of_outcome is in cc)
+ended_result Build file steps arguments run source outcome number status (bytes, image, inr (kept, is)) = absurd (let other : outcome.status ≡ Done = ap status_of_outcome is in cc)
 
 ended_row : (words : List (List ℕ)) (run : FilesRun) (sinks : SinksRun) (answer : Status) → IsAnswer words run sinks answer → EndedRow words run sinks answer
-ended_row words run sinks answer is number same = go (cause_of words run sinks answer (staged_at answer (Ended number) same (λ other. cc)) is)
-  where
-    by : (command : Command) (file : List ℕ) (outcome : Outcome) → outcome.status ≡ Ended number → IsOutcomeOf (record { command = command; file = file }) run outcome → (command ≡ Run) × EndedFrom run file number outcome.output
-    by Run file outcome due (inl fault) = absurd (let at : stage_of outcome.status ≡ at_load = stage_of_load run run.before file source_limit outcome.status fault.0 in let other : stage_of outcome.status ≡ at_execution = ap stage_of due in cc)
-    by Run file outcome due (inr loaded) = elim loaded.3 [
-      | inl refused ↦ absurd (let own : outcome.status ≡ Refused refused.0 refused.1 = ap status_of_outcome refused.3 in cc)
-      | inr accepted ↦
-          let ran = run_of accepted.0.0 [] program_limits in
-          let own : outcome.status ≡ status_of (Some ran.ending) = ap status_of_outcome (accepted.1 accepted.0.0 accepted.0.1) in
-          (refl, (loaded.0, accepted.0.0, loaded.1, accepted.0.1, returned_of ran.ending number (sym own ∙ due), ap output_of_outcome (accepted.1 accepted.0.0 accepted.0.1)))
-    ]
-    by Check file outcome due (inl fault) = absurd (let at : stage_of outcome.status ≡ at_load = stage_of_load run run.before file source_limit outcome.status fault.0 in let other : stage_of outcome.status ≡ at_execution = ap stage_of due in cc)
-    by Check file outcome due (inr loaded) = elim loaded.3 [
-      | inl refused ↦ absurd (let own : outcome.status ≡ Refused refused.0 refused.1 = ap status_of_outcome refused.3 in cc)
-      | inr accepted ↦ absurd (let own : outcome.status ≡ Done = ap status_of_outcome (accepted.1 accepted.0.0 accepted.0.1) in cc)
-    ]
+ended_row words run sinks answer is number same =
+    let told = told_of words run sinks answer (Ended number) same (λ other. cc) (λ other. cc) is in
+    let late_is = late_of words run sinks (Ended number) refl told in
+    let line = told.cause.line in
+    let result = ended_result line.command line.file line.steps line.arguments run late_is.source told.outcome number told.is late_is.result in
+    (line, told.cause.words_are, (result.0, late_is.source, told.outcome.output, late_is.accepted, result.1, told.written.output))
 
-    go : Cause words run sinks answer → ForCommand words (λ line. (line.command ≡ Run) × (printed : List ℕ) × EndedFrom run line.file number printed × Gains sinks.output sinks.output' printed)
-    go cause =
-        let from = by cause.line.command cause.line.file cause.outcome (sym cause.written.as_due ∙ same) cause.due in
-        (cause.line, cause.words_are, (from.0, cause.outcome.output, from.1, cause.written.output))
+-- what had not ended is an execution
+limited_result : (command : Command) (file : List ℕ) (steps : ℕ) (arguments : List (List ℕ)) (run : FilesRun) (source : Source) (outcome : Outcome) → outcome.status ≡ StepLimit
+    → IsResult (record { command = command; file = file; steps = steps; arguments = arguments }) run source outcome
+    → (command ≡ Run) × (steps < run_length source (arguments_of (record { command = command; file = file; steps = steps; arguments = arguments })) program_limits) × (steps < longest_run)
+limited_result Run file steps arguments run source outcome status (inl (enough, is)) = absurd (not_limited (run_of source (arguments_of (record { command = Run; file = file; steps = steps; arguments = arguments })) program_limits).ending (sym (ap status_of_outcome is) ∙ status))
+  where
+    not_limited : (end : Ending) → status_of (Some end) ≡ StepLimit → ⊥
+    not_limited (ending.Returned number) same = cc
+    not_limited (ending.Aborted type message) same = cc
+    not_limited ending.HeapLimit same = cc
+    not_limited ending.DepthLimit same = cc
+limited_result Run file steps arguments run source outcome status (inr (few, short, rest)) = (refl, few, omega (arith, few, short))
+limited_result Check file steps arguments run source outcome status is = absurd (let other : outcome.status ≡ Done = ap status_of_outcome is in cc)
+limited_result Build file steps arguments run source outcome status (bytes, image, inl (rose, loud, is)) = absurd (let other : outcome.status ≡ WriteFault = ap status_of_outcome is in cc)
+limited_result Build file steps arguments run source outcome status (bytes, image, inr (kept, is)) = absurd (let other : outcome.status ≡ Done = ap status_of_outcome is in cc)
+
+step_limit_row : (words : List (List ℕ)) (run : FilesRun) (sinks : SinksRun) (answer : Status) → IsAnswer words run sinks answer → StepLimitRow words run answer
+step_limit_row words run sinks answer is same =
+    let told = told_of words run sinks answer StepLimit same (λ other. cc) (λ other. cc) is in
+    let late_is = late_of words run sinks StepLimit refl told in
+    let line = told.cause.line in
+    let result = limited_result line.command line.file line.steps line.arguments run late_is.source told.outcome told.is late_is.result in
+    (line, told.cause.words_are, (result.0, late_is.source, late_is.accepted, result.1, result.2))
+
+-- what was done is no execution
+done_result : (command : Command) (file : List ℕ) (steps : ℕ) (arguments : List (List ℕ)) (run : FilesRun) (source : Source) (outcome : Outcome) → outcome.status ≡ Done
+    → IsResult (record { command = command; file = file; steps = steps; arguments = arguments }) run source outcome → command ≢ Run
+done_result Run file steps arguments run source outcome status is same = let at = stage_of_execution source (arguments_of (record { command = Run; file = file; steps = steps; arguments = arguments })) steps outcome is in let other : stage_of outcome.status ≡ at_end = ap stage_of status in cc
+done_result Check file steps arguments run source outcome status is same = cc
+done_result Build file steps arguments run source outcome status is same = cc
 
 done_row : (words : List (List ℕ)) (run : FilesRun) (sinks : SinksRun) (answer : Status) → IsAnswer words run sinks answer → DoneRow words run answer
-done_row words run sinks answer is same = go (cause_of words run sinks answer (staged_at answer Done same (λ other. cc)) is)
-  where
-    by : (command : Command) (file : List ℕ) (outcome : Outcome) → outcome.status ≡ Done → IsOutcomeOf (record { command = command; file = file }) run outcome → (command ≡ Check) × DoneFrom run file
-    by Run file outcome due (inl fault) = absurd (let at : stage_of outcome.status ≡ at_load = stage_of_load run run.before file source_limit outcome.status fault.0 in let other : stage_of outcome.status ≡ at_end = ap stage_of due in cc)
-    by Run file outcome due (inr loaded) = elim loaded.3 [
-      | inl refused ↦ absurd (let own : outcome.status ≡ Refused refused.0 refused.1 = ap status_of_outcome refused.3 in cc)
-      | inr accepted ↦ absurd (let ran = run_of accepted.0.0 [] program_limits in let own : outcome.status ≡ status_of (Some ran.ending) = ap status_of_outcome (accepted.1 accepted.0.0 accepted.0.1) in let at : stage_of outcome.status ≡ at_execution = ap stage_of own ∙ stage_of_end ran.ending in let other : stage_of outcome.status ≡ at_end = ap stage_of due in cc)
-    ]
-    by Check file outcome due (inl fault) = absurd (let at : stage_of outcome.status ≡ at_load = stage_of_load run run.before file source_limit outcome.status fault.0 in let other : stage_of outcome.status ≡ at_end = ap stage_of due in cc)
-    by Check file outcome due (inr loaded) = elim loaded.3 [
-      | inl refused ↦ absurd (let own : outcome.status ≡ Refused refused.0 refused.1 = ap status_of_outcome refused.3 in cc)
-      | inr accepted ↦ (refl, (loaded.0, accepted.0.0, loaded.1, loaded.2, accepted.0.1))
-    ]
-
-    go : Cause words run sinks answer → ForCommand words (λ line. (line.command ≡ Check) × DoneFrom run line.file)
-    go cause = (cause.line, cause.words_are, by cause.line.command cause.line.file cause.outcome (sym cause.written.as_due ∙ same) cause.due)
+done_row words run sinks answer is same =
+    let told = told_of words run sinks answer Done same (λ other. cc) (λ other. cc) is in
+    let late_is = late_of words run sinks Done refl told in
+    let line = told.cause.line in
+    (line, told.cause.words_are, (done_result line.command line.file line.steps line.arguments run late_is.source told.outcome told.is late_is.result, late_is.source, late_is.accepted))
 
 pub answer_table : (words : List (List ℕ)) (run : FilesRun) (sinks : SinksRun) (answer : Status) → IsAnswer words run sinks answer → AnswerTable words run sinks answer
 answer_table words run sinks answer is = record {
@@ -238,6 +316,7 @@ answer_table words run sinks answer is = record {
   too_long = too_long_row words run sinks answer is;
   refused = refused_row words run sinks answer is;
   ended = ended_row words run sinks answer is;
+  step_limit = step_limit_row words run sinks answer is;
   done = done_row words run sinks answer is;
   memory = memory_row words run sinks answer is;
 }

@@ -1,17 +1,28 @@
 -- What a command comes to, from what its steps gave.
-use Rattle.std.proofs.Common.{◌≡◌, ◌≤◌, refl, inr, ℕ, List, [], length}
-use Rattle.std.specs.Prelude.{Result, Ok, Err}
-use Rattle.cc_base.specs.Outside.{Holds}
+use Rattle.std.proofs.Common.{◌≡◌, ◌≢◌, ◌≤◌, ◌+◌, ◌^◌, refl, inl, inr, ℕ, List, [], length, map, ap, ◌∙◌, sym, subst, arith}
+use Rattle.std.specs.Prelude.{Bool, true, false, nat_lt, if◌then◌else◌, Result, Ok, Err, Some, IsErrAnd, IsTrue}
+use Rattle.cc_base.specs.Outside.{FilesState, GoesOn, Holds, Rose}
 use Rattle.cc_cil.specs.declared.body.Body.{Body}
-use Rattle.cc_core.specs.StraightSource.{Source}
+use Rattle.cc_core.specs.StraightSource.{Source, source_operations}
+use Rattle.cc_base.specs.Cells.{arguments_pass}
+use Rattle.cc_emit.specs.Program.{module_of}
+use Rattle.cc_image.specs.Images.{IsImage}
 use Rattle.cc_core.specs.StraightMeaning.{run_of}
+use Rattle.cc_straight.specs.declared.runner.Executed.{Executed}
+use Rattle.cc_straight.specs.Executing.{DoesWithin, run_length}
+use Rattle.cc_straight.specs.Reading.{Reads}
 use Rattle.cc_straight.specs.Straight.{RunsAs}
-use Rattle.cppcli.specs.Answers.{FilesRun, ForSource, IsOutcomeOf, source_limit, program_limits, ended, done}
-use Rattle.cppcli.specs.Stops.{IsEnd}
+use Rattle.cc_words.specs.declared.command.Command.TheVariants.{Run, Check, Build}
+use Rattle.cppcli.specs.Answers.{FilesRun, AfterStore, ForSource, IsExecuted, IsOutcomeOf, image_name, longest_run, program_limits, source_limit, status_of, stopped, units_of, done}
+use Rattle.cppcli.specs.Notes.{note_of}
+use Rattle.cc_emit.proofs.Sizes.{image_within}
+use Rattle.cppcli.proofs.CodeLemmas.{code_within}
+use Rattle.cppcli.specs.Stops.{IsEnd, IsStop, ended_status}
 use Rattle.cppcli.specs.declared.outcome.Outcome.{Outcome}
 use Rattle.cppcli.specs.declared.outcome.Stop.{Stop}
 use Rattle.cppcli.specs.declared.outcome.Stop.TheVariants.{OutOfMemory, With}
-use Rattle.cppcli.specs.declared.words.Command.TheVariants.{Run, Check}
+use Rattle.cppcli.specs.declared.status.Status.{Status}
+use Rattle.cppcli.specs.declared.status.Status.TheVariants.{WriteFault, StepLimit}
 
 -- a fact of the outcome gives another, however the steps end
 end_of : (result : Result Outcome Stop) (P Q : Outcome → Type 0) → ((outcome : Outcome) → P outcome → Q outcome) → IsEnd result P → IsEnd result Q
@@ -19,12 +30,86 @@ end_of (Ok outcome) P Q more holds = more outcome holds
 end_of (Err OutOfMemory) P Q more holds = holds
 end_of (Err (With outcome)) P Q more holds = more outcome holds
 
--- a file that was loaded, compiled and executed
-pub run_outcome : (run : FilesRun) (file bytes : List ℕ) (code : Body) (result : Result Outcome Stop) → Holds run.before file bytes → length bytes ≤ source_limit → ForSource bytes (λ source. RunsAs code source) → IsEnd result (λ outcome. (source : Source) → RunsAs code source → outcome ≡ ended (run_of source [] program_limits)) → IsEnd result (IsOutcomeOf (record { command = Run; file = file }) run)
-run_outcome run file bytes code result held short compiled executed =
-    end_of result (λ outcome. (source : Source) → RunsAs code source → outcome ≡ ended (run_of source [] program_limits)) (IsOutcomeOf (record { command = Run; file = file }) run)
-    (λ outcome does. inr (bytes, held, short, inr (compiled.0, λ source reads. does source (compiled.1 source reads)))) executed
+abbrev outcome_with : Status → List ℕ → List ℕ → Outcome
+outcome_with status output note = record { status = status; output = output; note = note }
 
--- a file that was loaded and compiled
-pub check_outcome : (run : FilesRun) (file bytes : List ℕ) (code : Body) → Holds run.before file bytes → length bytes ≤ source_limit → ForSource bytes (λ source. RunsAs code source) → IsOutcomeOf (record { command = Check; file = file }) run done
-check_outcome run file bytes code held short compiled = inr (bytes, held, short, inr (compiled.0, λ source reads. refl))
+-- an outcome with the note of its status
+same_outcome : (o : Outcome) (status : Status) (output : List ℕ) → o.status ≡ status → o.output ≡ output → o.note ≡ note_of o.status [] [] → o ≡ outcome_with status output (note_of status [] [])
+same_outcome o status output is_status is_output is_note =
+    ap (λ (s : Status). outcome_with s o.output o.note) is_status
+    ∙ ap (λ (l : List ℕ). outcome_with status l o.note) is_output
+    ∙ ap (λ (l : List ℕ). outcome_with status output l) (is_note ∙ ap (λ (s : Status). note_of s [] []) is_status)
+
+no_more_than : (none too_deep : Bool) (count most : ℕ) → count ≤ most → (if none then 0 else if too_deep then 0 else count) ≤ most
+no_more_than true too_deep count most within = omega (arith, within)
+no_more_than false true count most within = omega (arith, within)
+no_more_than false false count most within = within
+
+run_within : (source : Source) (arguments : List (List ℕ)) → length (source_operations source) ≤ longest_run → run_length source arguments program_limits ≤ longest_run
+run_within source arguments within = no_more_than (arguments_pass program_limits.cells arguments) (nat_lt program_limits.frames 2) (length (source_operations source)) longest_run within
+
+-- what an execution comes to
+pub executed_outcome : (source : Source) (arguments : List (List ℕ)) (steps : ℕ) (executed : Executed) (o : Outcome) → length (source_operations source) ≤ longest_run → DoesWithin executed source arguments program_limits steps
+    → o.status ≡ status_of executed.ending → o.output ≡ executed.output → o.note ≡ note_of o.status [] [] → IsExecuted source arguments steps o
+executed_outcome source arguments steps executed o within (inl (enough, (ending, output))) is_status is_output is_note =
+    inl (enough, same_outcome o (status_of (Some (run_of source arguments program_limits).ending)) (run_of source arguments program_limits).output (is_status ∙ ap status_of ending) (is_output ∙ output) is_note)
+executed_outcome source arguments steps executed o within (inr (few, (going, (more, front)))) is_status is_output is_note =
+    inr (few, run_within source arguments within, (executed.output, more, front, same_outcome o StepLimit executed.output (is_status ∙ ap status_of going) is_output is_note))
+
+-- a file that was loaded, compiled and executed
+pub run_outcome : (run : FilesRun) (file : List ℕ) (steps : ℕ) (arguments : List (List ℕ)) (bytes : List ℕ) (code : Body) (texts : List (List ℕ)) (result : Result Outcome Stop)
+    → Holds run.before file bytes → length bytes ≤ source_limit → ForSource bytes (λ source. RunsAs code source) → texts ≡ map units_of arguments
+    → IsEnd result (λ outcome. (source : Source) → RunsAs code source → IsExecuted source texts steps outcome)
+    → IsEnd result (IsOutcomeOf (record { command = Run; file = file; steps = steps; arguments = arguments }) run)
+run_outcome run file steps arguments bytes code texts result held short compiled texts_are executed =
+    end_of result (λ outcome. (source : Source) → RunsAs code source → IsExecuted source (map units_of arguments) steps outcome)
+    (IsOutcomeOf (record { command = Run; file = file; steps = steps; arguments = arguments }) run)
+    (λ outcome does. inr (bytes, held, short, inr (compiled.0, λ source reads. does source (compiled.1 source reads))))
+    (subst (λ (t : List (List ℕ)). IsEnd result (λ outcome. (source : Source) → RunsAs code source → IsExecuted source t steps outcome)) texts_are executed)
+
+-- a file that was loaded and checked
+pub check_outcome : (run : FilesRun) (file : List ℕ) (steps : ℕ) (arguments : List (List ℕ)) (bytes : List ℕ) (source : Source)
+    → Holds run.before file bytes → length bytes ≤ source_limit → Reads bytes source → IsOutcomeOf (record { command = Check; file = file; steps = steps; arguments = arguments }) run done
+check_outcome run file steps arguments bytes source held short reads = inr (bytes, held, short, inr ((source, reads), λ other also. refl))
+
+-- a file that was loaded, compiled, and whose image was to be stored
+pub build_outcome : (run : FilesRun) (file : List ℕ) (steps : ℕ) (arguments : List (List ℕ)) (bytes : List ℕ) (code : Body) (image : List ℕ) (outcome : Outcome)
+    → Holds run.before file bytes → length bytes ≤ source_limit → ForSource bytes (λ source. RunsAs code source) → IsImage (module_of code.code) image
+    → AfterStore run (image_name file) image outcome (outcome ≡ done) → IsOutcomeOf (record { command = Build; file = file; steps = steps; arguments = arguments }) run outcome
+build_outcome run file steps arguments bytes code image outcome held short compiled is_image after =
+    inr (bytes, held, short, inr (compiled.0, λ source reads. (image, record { main = code; runs = compiled.1 source reads; is_image = is_image; few = image_within code.code (code_within code source (compiled.1 source reads)) }, after)))
+
+-- what a store did, seen from before the load
+module _ (run : FilesRun) (middle : FilesState) (quiet : Type 0) (on : GoesOn run.before middle) (name image : List ℕ) where
+  pub store_failed : (outcome : Outcome) → Rose (middle.store_faults name) (run.after.store_faults name) → (run.quiet → quiet) → (¬ quiet) → outcome ≡ stopped WriteFault name [] → AfterStore run name image outcome (outcome ≡ done)
+  store_failed outcome rose still loud is =
+      let earlier = on.store_faults name in
+      inl (omega (arith, rose, earlier), λ q. loud (still q), is)
+
+  pub store_went : (IsTrue (middle.keeps name) → run.after.gives name ≡ Some (Some image)) → AfterStore run name image done (done ≡ done)
+  store_went kept = inr (λ keeps. kept (subst IsTrue (sym (on.keeps name)) keeps), refl)
+
+-- a store that failed, whatever its memory
+pub build_stopped : (run : FilesRun) (file : List ℕ) (steps : ℕ) (arguments : List (List ℕ)) (bytes : List ℕ) (code : Body) (image : List ℕ) (middle : FilesState) (quiet : Type 0) → GoesOn run.before middle → (stop : Stop)
+    → Holds run.before file bytes → length bytes ≤ source_limit → ForSource bytes (λ source. RunsAs code source) → IsImage (module_of code.code) image → (run.quiet → quiet)
+    → IsStop stop (λ outcome. Rose (middle.store_faults (image_name file)) (run.after.store_faults (image_name file)) × (¬ quiet) × (outcome ≡ stopped WriteFault (image_name file) []))
+    → IsStop stop (IsOutcomeOf (record { command = Build; file = file; steps = steps; arguments = arguments }) run)
+build_stopped run file steps arguments bytes code image middle quiet on OutOfMemory held short compiled is_image still failed = failed
+build_stopped run file steps arguments bytes code image middle quiet on (With outcome) held short compiled is_image still failed =
+    build_outcome run file steps arguments bytes code image outcome held short compiled is_image (store_failed run middle quiet on (image_name file) image outcome failed.0 still failed.1 failed.2)
+
+-- what a store that failed ends with
+pub stop_of_fault : (stop : Stop) (name : List ℕ) (R Q : Type 0) → stop ≡ With (stopped WriteFault name []) → R → Q → IsStop stop (λ outcome. R × Q × (outcome ≡ stopped WriteFault name []))
+stop_of_fault stop name R Q is rose loud = subst (λ (s : Stop). IsStop s (λ outcome. R × Q × (outcome ≡ stopped WriteFault name []))) (sym is) (rose, loud, refl)
+
+-- steps that end as one of them did
+pub end_of_stop : (result : Result Outcome Stop) (stop : Stop) (P : Outcome → Type 0) → IsErrAnd result (λ s. s ≡ stop) → IsStop stop P → IsEnd result P
+end_of_stop (Ok outcome) stop P same stopped = absurd same
+end_of_stop (Err other) stop P same stopped = subst (λ (s : Stop). IsStop s P) (sym same) stopped
+
+-- a store that failed keeps all files where it was for want of memory
+pub store_kept : (result : Result Outcome Stop) (stop : Stop) (name : List ℕ) (R Q S : Type 0) → IsErrAnd result (λ s. s ≡ stop) → IsStop stop (λ outcome. R × Q × (outcome ≡ stopped WriteFault name []))
+    → (stop ≡ OutOfMemory → S) → ended_status result ≢ WriteFault → S
+store_kept (Ok outcome) stop name R Q S same failed memory other = absurd same
+store_kept (Err one) OutOfMemory name R Q S same failed memory other = memory refl
+store_kept (Err one) (With outcome) name R Q S same failed memory other = absurd (other (ap (λ (s : Stop). ended_status (Err s)) same ∙ ap (λ (o : Outcome). o.status) failed.2))

@@ -1,6 +1,9 @@
 -- What a call of the program answers and writes, and why.
-use Rattle.std.specs.Prelude.{◌≡◌, ◌⊎◌, ◌≤◌, ◌<◌, ◌+◌, ℕ, List, [], length, take, Option, Some, None}
-use Rattle.cc_base.specs.Outside.{FilesState, StreamState, Rose, Holds, HoldsMore, Lacks, Gains, GivesSame}
+use Rattle.std.specs.Prelude.{◌≡◌, ◌≢◌, ◌⊎◌, ◌≤◌, ◌<◌, ◌+◌, ℕ, List, [], ◌++◌, codes, length, map, take, Option, Some, None, is_some, true, IsTrue}
+use Rattle.std.specs.Char.Escape.{encode_utf16}
+use Rattle.std.specs.List.{flat_map}
+use Rattle.std.specs.Str.{chars}
+use Rattle.cc_base.specs.Outside.{FilesState, StreamState, Rose, Holds, HoldsMore, Lacks, Gains, GivesSame, GivesSameBut}
 use Rattle.cc_base.specs.declared.kind.Kind.{Kind}
 use Rattle.cc_base.specs.declared.text.Span.{Span}
 use Rattle.cc_base.specs.declared.running.Limits.{Limits}
@@ -9,11 +12,17 @@ use Rattle.cc_base.specs.declared.running.Ending.TheVariants as ending
 use Rattle.cc_core.specs.StraightSource.{Source}
 use Rattle.cc_core.specs.StraightMeaning.{Ran, run_of}
 use Rattle.cppcli.specs.Notes.{note_of}
-use Rattle.cc_straight.specs.Reading.{Reads, Refuses}
-use Rattle.cppcli.specs.Words.{CommandLine, command_line}
+use Rattle.cc_cil.specs.declared.body.Body.{Body}
+use Rattle.cc_module.specs.Storable.{image_size}
+use Rattle.cc_straight.specs.Executing.{run_length}
+use Rattle.cc_straight.specs.Reading.{Purpose, execution, checking, Reads, Refuses}
+use Rattle.cc_straight.specs.Straight.{RunsAs}
+use Rattle.cc_emit.specs.Program.{image_limit, module_of}
+use Rattle.cc_image.specs.Images.{IsImage}
+use Rattle.cc_words.specs.Words.{CommandLine, command_line, first_command}
+use Rattle.cc_words.specs.declared.command.Command.{Command}
+use Rattle.cc_words.specs.declared.command.Command.TheVariants.{Run, Check, Build}
 use Rattle.cppcli.specs.declared.outcome.Outcome.{Outcome}
-use Rattle.cppcli.specs.declared.words.Command.{Command}
-use Rattle.cppcli.specs.declared.words.Command.TheVariants.{Run, Check}
 use Rattle.cppcli.specs.declared.status.Status.{Status}
 use Rattle.cppcli.specs.declared.status.Status.TheVariants.{Done, Ended, Usage, Absent, ReadFault, WriteFault, TooLong, Refused, Aborted, HeapLimit, DepthLimit, StepLimit, Memory}
 
@@ -40,6 +49,29 @@ status_of None = StepLimit
 -- the outcome of a program that was executed to its end
 abbrev pub ended : Ran → Outcome
 ended ran = record { status = status_of (Some ran.ending); output = ran.output; note = note_of (status_of (Some ran.ending)) [] [] }
+
+-- the outcome of a program that had not ended after its steps
+abbrev pub cut : List ℕ → Outcome
+cut output = record { status = StepLimit; output = output; note = note_of StepLimit [] [] }
+
+-- the most instructions that the run of a source executes
+abbrev pub longest_run : ℕ
+longest_run = 2097152
+
+-- A program that may execute so many instructions has its run's outcome where the run has no more; else it has not ended, and printed a front of what the run prints.
+abbrev pub IsExecuted : Source → List (List ℕ) → ℕ → Outcome → Type 0
+IsExecuted source arguments steps outcome =
+    ((run_length source arguments program_limits ≤ steps) × (outcome ≡ ended (run_of source arguments program_limits)))
+    ⊎ ((steps < run_length source arguments program_limits) × (run_length source arguments program_limits ≤ longest_run)
+    × ((printed more : List ℕ) × ((run_of source arguments program_limits).output ≡ printed ++ more) × (outcome ≡ cut printed)))
+
+-- a word as units of UTF-16
+abbrev pub units_of : List ℕ → List ℕ
+units_of word = flat_map encode_utf16 (chars word)
+
+-- the arguments of a program
+abbrev pub arguments_of : CommandLine → List (List ℕ)
+arguments_of line = map units_of line.arguments
 
 -- the outcome of a command that was done and writes nothing
 abbrev pub done : Outcome
@@ -70,11 +102,32 @@ AfterLoad run files name limit outcome next =
 abbrev pub ForSource : List ℕ → (Source → Type 0) → Type 0
 ForSource bytes P = ((source : Source) × Reads bytes source) × ((source : Source) → Reads bytes source → P source)
 
--- the bytes of the file are compiled
-abbrev pub AfterCompile : List ℕ → List ℕ → Outcome → (Source → Type 0) → Type 0
-AfterCompile file bytes outcome next =
-    ((kind : Kind) × (span : Span) × Refuses bytes kind span × (outcome ≡ stopped (Refused kind span) file bytes))
+-- the bytes of the file are compiled, to be executed or only to be checked
+abbrev pub AfterCompile : Purpose → List ℕ → List ℕ → Outcome → (Source → Type 0) → Type 0
+AfterCompile purpose file bytes outcome next =
+    ((kind : Kind) × (span : Span) × Refuses purpose bytes kind span × (outcome ≡ stopped (Refused kind span) file bytes))
     ⊎ ForSource bytes next
+
+-- the name of the image of a file
+abbrev pub image_name : List ℕ → List ℕ
+image_name file = file ++ codes ".exe"
+
+-- the bytes are a file of a module whose `main` does what the source says
+pub record IsImageOf (source : Source) (bytes : List ℕ) : Type 0 where
+  pub main : Body
+  pub runs : RunsAs main source
+  pub is_image : IsImage (module_of main.code) bytes
+  pub few : image_size (module_of main.code) ≤ image_limit
+
+-- the bytes are stored under the name: the store fails, or the name gives them where its stores are kept
+abbrev pub AfterStore : FilesRun → List ℕ → List ℕ → Outcome → Type 0 → Type 0
+AfterStore run name bytes outcome next =
+    (Rose (run.before.store_faults name) (run.after.store_faults name) × (¬ run.quiet) × (outcome ≡ stopped WriteFault name []))
+    ⊎ ((IsTrue (run.before.keeps name) → run.after.gives name ≡ Some (Some bytes)) × next)
+
+-- the image of the source is stored
+abbrev pub IsBuilt : FilesRun → List ℕ → Source → Outcome → Type 0
+IsBuilt run name source outcome = (bytes : List ℕ) × IsImageOf source bytes × AfterStore run name bytes outcome (outcome ≡ done)
 
 -- The commands, each as its steps.
 abbrev pub IsOutcomeOf : CommandLine → FilesRun → Outcome → Type 0
@@ -83,26 +136,35 @@ IsOutcomeOf line run outcome = by line.command
     by : Command → Type 0
     by Run =
         AfterLoad run run.before line.file source_limit outcome (λ bytes.
-        AfterCompile line.file bytes outcome (λ source.
-        outcome ≡ ended (run_of source [] program_limits)))
+        AfterCompile execution line.file bytes outcome (λ source.
+        IsExecuted source (arguments_of line) line.steps outcome))
     by Check =
         AfterLoad run run.before line.file source_limit outcome (λ bytes.
-        AfterCompile line.file bytes outcome (λ source.
+        AfterCompile checking line.file bytes outcome (λ source.
         outcome ≡ done))
+    by Build =
+        AfterLoad run run.before line.file source_limit outcome (λ bytes.
+        AfterCompile execution line.file bytes outcome (λ source.
+        IsBuilt run (image_name line.file) source outcome))
 
--- what the words ask for; memory may run out in any command
+-- what the words ask for; they are no command, or memory runs out, or the command has an outcome
 abbrev pub IsOutcomeFor : Option CommandLine → FilesRun → Outcome → Type 0
 IsOutcomeFor None run outcome = outcome ≡ stopped Usage [] []
-IsOutcomeFor (Some line) run outcome = (outcome ≡ stopped Memory [] []) ⊎ IsOutcomeOf line run outcome
+IsOutcomeFor (Some line) run outcome = IsOutcomeOf line run outcome
 
--- no name but those that the command stores gives other bytes now
-abbrev pub KeepsFiles : Option CommandLine → FilesRun → Type 0
-KeepsFiles None run = GivesSame run.before run.after
-KeepsFiles (Some line) run = by line.command
+-- memory may run out where the first word is a command
+abbrev pub IsOutcome : List (List ℕ) → FilesRun → Outcome → Type 0
+IsOutcome words run outcome = ((outcome ≡ stopped Memory [] []) × (is_some (first_command words) ≡ true)) ⊎ IsOutcomeFor (command_line words) run outcome
+
+-- No name but those that the command stores gives other bytes now, and those only where the command was done or the store failed.
+abbrev pub KeepsFiles : Option CommandLine → FilesRun → Status → Type 0
+KeepsFiles None run status = GivesSame run.before run.after
+KeepsFiles (Some line) run status = by line.command
   where
     by : Command → Type 0
     by Run = GivesSame run.before run.after
     by Check = GivesSame run.before run.after
+    by Build = GivesSameBut (image_name line.file) run.before run.after × (status ≢ Done → status ≢ WriteFault → GivesSame run.before run.after)
 
 -- The sinks as the call found them and as it left them, and the numbers of bytes that they were sure to take.
 pub record SinksRun : Type 1 where
@@ -141,6 +203,6 @@ IsDelivered outcome sinks answer = IsWritten outcome sinks answer ⊎ IsOutputCu
 -- The contract of the program: the words have an outcome, and it is written, or a failed write cuts it short.
 pub record IsAnswer (words : List (List ℕ)) (run : FilesRun) (sinks : SinksRun) (answer : Status) : Type 0 where
   pub outcome : Outcome
-  pub is_outcome : IsOutcomeFor (command_line words) run outcome
-  pub keeps_files : KeepsFiles (command_line words) run
+  pub is_outcome : IsOutcome words run outcome
+  pub keeps_files : KeepsFiles (command_line words) run outcome.status
   pub is_delivered : IsDelivered outcome sinks answer

@@ -4,4 +4,3 @@ pub mod Exit
 pub mod Notes
 pub mod Rows
 pub mod Stops
-pub mod Words

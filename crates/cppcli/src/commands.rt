@@ -1,26 +1,35 @@
 // The commands, each as its steps.
-ghost use Rattle.std.specs.Prelude.{◌≡◌, Some, IfOk};
-ghost use Rattle.cppcli.specs.Answers.{IsOutcomeOf, KeepsFiles, FilesRun, done};
-ghost use Rattle.cc_base.specs.Outside.{GivesSame};
-ghost use Rattle.cppcli.specs.Stops.{IsEnd};
+ghost use Rattle.std.specs.Prelude.{◌≡◌, ◌≢◌, ℕ, List, Some, IfOk, map, string_bytes};
+ghost use Rattle.cppcli.specs.Answers.{IsOutcomeOf, KeepsFiles, FilesRun, image_name, done};
+ghost use Rattle.cc_base.specs.Outside.{GivesSame, GivesSameBut};
+ghost use Rattle.cc_words.specs.Shown.{shown};
+ghost use Rattle.cppcli.specs.Stops.{IsEnd, answered_status, ended_status};
 
 use crate::Status;
+use crate::arguments::texts_of;
 use crate::outcome::{Outcome, Stop};
-use crate::steps::{compile, execute, load};
-use crate::words::{Command, Request};
+use crate::steps::{check_source, compile, execute, image_name, image_of, load, store};
 use cc_base::{Files, List};
+use cc_words::{Command, Request};
 use std::alloc::{AllocError, Global};
 
 /// The longest source, in bytes.
 const SOURCE_LIMIT: u32 = 1048576;
 
-fn run<F: Files>(alloc: Global, file: &str, files: &mut F) -> Result<Outcome, Stop>
-    ensures outcome { IsEnd result (IsOutcomeOf (record { command = Command.Run; file = file.now }) (record { before = F.state files.old; after = F.state files.new; quiet = F.quiet files.old })) }
+fn run<F: Files>(
+    alloc: Global,
+    file: &str,
+    steps: u32,
+    arguments: &[String],
+    files: &mut F,
+) -> Result<Outcome, Stop>
+    ensures outcome { IsEnd result (IsOutcomeOf (record { command = Command.Run; file = file.now; steps = steps; arguments = map (λ word. string_bytes word) arguments.now }) (record { before = F.state files.old; after = F.state files.new; quiet = F.quiet files.old })) }
     ensures same { GivesSame (F.state files.old) (F.state files.new) }
 {
     let bytes = load(alloc, files, file, SOURCE_LIMIT)?;
     let code = compile(alloc, file, &bytes)?;
-    execute(alloc, code)
+    let texts = texts_of(alloc, arguments)?;
+    execute(alloc, code, texts.as_slice(), steps)
 }
 
 // What a command that writes nothing comes to.
@@ -35,28 +44,49 @@ fn done(alloc: Global) -> Outcome
 }
 
 fn check<F: Files>(alloc: Global, file: &str, files: &mut F) -> Result<Outcome, Stop>
-    ensures outcome { IsEnd result (IsOutcomeOf (record { command = Command.Check; file = file.now }) (record { before = F.state files.old; after = F.state files.new; quiet = F.quiet files.old })) }
+    ensures outcome { (steps : ℕ) (arguments : List (List ℕ)) → IsEnd result (IsOutcomeOf (record { command = Command.Check; file = file.now; steps = steps; arguments = arguments }) (record { before = F.state files.old; after = F.state files.new; quiet = F.quiet files.old })) }
     ensures same { GivesSame (F.state files.old) (F.state files.new) }
 {
     let bytes = load(alloc, files, file, SOURCE_LIMIT)?;
-    let _code = compile(alloc, file, &bytes)?;
+    check_source(alloc, file, &bytes)?;
     Ok(done(alloc))
 }
 
-/// Does a command, short of writing.
+fn build<F: Files>(alloc: Global, file: &str, files: &mut F) -> Result<Outcome, Stop>
+    ensures outcome { (steps : ℕ) (arguments : List (List ℕ)) → IsEnd result (IsOutcomeOf (record { command = Command.Build; file = file.now; steps = steps; arguments = arguments }) (record { before = F.state files.old; after = F.state files.new; quiet = F.quiet files.old })) }
+    ensures others { GivesSameBut (image_name file.now) (F.state files.old) (F.state files.new) }
+    ensures kept { ended_status result ≢ Status.Done → ended_status result ≢ Status.WriteFault → GivesSame (F.state files.old) (F.state files.new) }
+{
+    let bytes = load(alloc, files, file, SOURCE_LIMIT)?;
+    let code = compile(alloc, file, &bytes)?;
+    let image = image_of(alloc, &code)?;
+    let name = image_name(alloc, file)?;
+    store(alloc, files, name.as_str(), image.as_slice())?;
+    Ok(done(alloc))
+}
+
+// How the steps of a command end.
+fn end_of<F: Files>(alloc: Global, request: Request<'_>, files: &mut F) -> Result<Outcome, Stop>
+    ensures outcome { IsEnd result (IsOutcomeOf (shown request.entry) (record { before = F.state files.old; after = F.state files.new; quiet = F.quiet files.old })) }
+    ensures files { KeepsFiles (Some (shown request.entry)) (record { before = F.state files.old; after = F.state files.new; quiet = F.quiet files.old }) (ended_status result) }
+{
+    match request.command {
+        Command::Run => run(alloc, request.file, request.steps, request.arguments, files),
+        Command::Check => check(alloc, request.file, files),
+        Command::Build => build(alloc, request.file, files),
+    }
+}
+
+/// Does a command, short of writing to the output and the notes.
 pub fn perform<F: Files>(
     alloc: Global,
     request: Request<'_>,
     files: &mut F,
 ) -> Result<Outcome, AllocError>
-    ensures outcome { IfOk result (IsOutcomeOf (record { command = request.entry.command; file = request.entry.file.now }) (record { before = F.state files.old; after = F.state files.new; quiet = F.quiet files.old })) }
-    ensures files { KeepsFiles (Some (record { command = request.entry.command; file = request.entry.file.now })) (record { before = F.state files.old; after = F.state files.new; quiet = F.quiet files.old }) }
+    ensures outcome { IfOk result (IsOutcomeOf (shown request.entry) (record { before = F.state files.old; after = F.state files.new; quiet = F.quiet files.old })) }
+    ensures files { KeepsFiles (Some (shown request.entry)) (record { before = F.state files.old; after = F.state files.new; quiet = F.quiet files.old }) (answered_status result) }
 {
-    let ended = match request.command {
-        Command::Run => run(alloc, request.file, files),
-        Command::Check => check(alloc, request.file, files),
-    };
-    match ended {
+    match end_of(alloc, request, files) {
         Ok(outcome) => Ok(outcome),
         Err(Stop::With(outcome)) => Ok(outcome),
         Err(Stop::OutOfMemory) => Err(AllocError),

@@ -1,6 +1,7 @@
 //! The program: what its words ask for, what it loads, and what it writes.
 #![tactic(auto)]
 
+mod arguments;
 mod commands;
 mod deliver;
 mod note;
@@ -10,7 +11,6 @@ mod steps;
 #[cfg(test)]
 mod tests;
 mod top;
-mod words;
 
 use cc_base::{HostFiles, HostSink, HostSource};
 pub use status::Status;

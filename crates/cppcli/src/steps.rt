@@ -1,29 +1,30 @@
 // The steps of the commands.
-ghost use Rattle.std.specs.Prelude.{◌≡◌, ◌≤◌, ◌<◌, ◌^◌, [], List, ℕ, length, MatchResult};
-ghost use Rattle.cc_base.specs.Outside.{GivesSame, Holds};
+ghost use Rattle.std.specs.Prelude.{◌≡◌, ◌≤◌, ◌<◌, ◌^◌, [], List, ℕ, Some, Err, length, string_bytes, IfOk, IsTrue, MatchResult};
+ghost use Rattle.std.specs.List.{All};
+ghost use Rattle.cc_base.specs.Outside.{GivesSame, GivesSameBut, GoesOn, Holds, Rose};
 ghost use Rattle.cc_core.specs.StraightSource.{Source};
-ghost use Rattle.cc_core.specs.StraightMeaning.{run_of};
-ghost use Rattle.cppcli.specs.Answers.{FilesRun, IsLoadFault, stopped, status_of, ended, program_limits, ForSource};
-ghost use Rattle.cc_straight.specs.Reading.{Reads, Refuses};
-ghost use Rattle.cppcli.specs.Stops.{IsStop, IsEnd};
+ghost use Rattle.cc_straight.specs.Reading.{execution, checking, Reads, Refuses};
 ghost use Rattle.cc_straight.specs.Straight.{RunsAs};
+ghost use Rattle.cc_emit.specs.Program.{module_of, code_limit};
+ghost use Rattle.cc_image.specs.Images.{IsImage};
+ghost use Rattle.cppcli.specs.Answers.{FilesRun, IsLoadFault, IsExecuted, stopped, status_of, image_name, ForSource};
+ghost use Rattle.cppcli.specs.Stops.{IsStop, IsEnd};
 
 use crate::Status;
 use crate::note::note;
 use crate::outcome::{Outcome, Stop};
-use cc_base::{Ending, Files, Kind, Limits, List, LoadFault, Span};
+use cc_base::{Ending, Files, Kind, Limits, List, LoadFault, Span, StoreFault, Text};
+use cc_emit::emit;
+use cc_image::write_image;
 use cc_machine::Checked;
 use cc_straight::CompileFault;
-use std::alloc::Global;
+use std::alloc::{AllocError, Global};
 
 /// What an executed program may use.
 const LIMITS: Limits = Limits {
     frames: 4096,
     cells: 8000000,
 };
-
-/// The instructions that a program may execute.
-const STEPS: u64 = 50000000;
 
 // Ends with a status and its note about a file.
 fn stop(alloc: Global, status: Status, file: &str, bytes: &[u8]) -> Stop
@@ -47,6 +48,8 @@ pub fn load<F: Files>(alloc: Global, files: &mut F, name: &str, limit: u32) -> R
         (λ stop. IsStop stop (λ outcome. IsLoadFault (record { before = F.state files.old; after = F.state files.new; quiet = F.quiet files.old }) (F.state files.old) name.now limit outcome.status
         × (outcome ≡ stopped outcome.status name.now []))) }
     ensures same { GivesSame (F.state files.old) (F.state files.new) }
+    ensures goes_on { GoesOn (F.state files.old) (F.state files.new) }
+    ensures quiet { F.quiet files.old → F.quiet files.new }
 {
     let mut bytes = Vec::new(alloc);
     let status = match files.load(name, limit, &mut bytes) {
@@ -59,15 +62,31 @@ pub fn load<F: Files>(alloc: Global, files: &mut F, name: &str, limit: u32) -> R
     Err(stop(alloc, status, name, &[]))
 }
 
-/// Compiles the bytes of a file.
+/// Compiles the bytes of a file, to be executed.
 pub fn compile(alloc: Global, file: &str, bytes: &[u8]) -> Result<Checked, Stop>
     requires { length bytes.now < 2 ^ 32 }
     ensures { MatchResult result
         (λ code. ForSource bytes.now (λ source. RunsAs code source))
-        (λ stop. IsStop stop (λ outcome. (kind : Kind) × (span : Span) × Refuses bytes.now kind span × (outcome ≡ stopped (Status.Refused kind span) file.now bytes.now))) }
+        (λ stop. IsStop stop (λ outcome. (kind : Kind) × (span : Span) × Refuses execution bytes.now kind span × (outcome ≡ stopped (Status.Refused kind span) file.now bytes.now))) }
 {
     match cc_straight::compile(alloc, bytes) {
         Ok(code) => Ok(code),
+        Err(CompileFault::Refused(kind, span)) => {
+            Err(stop(alloc, Status::Refused(kind, span), file, bytes))
+        }
+        Err(CompileFault::Memory) => Err(Stop::OutOfMemory),
+    }
+}
+
+/// Checks the bytes of a file.
+pub fn check_source(alloc: Global, file: &str, bytes: &[u8]) -> Result<(), Stop>
+    requires { length bytes.now < 2 ^ 32 }
+    ensures { MatchResult result
+        (λ _. (source : Source) × Reads bytes.now source)
+        (λ stop. IsStop stop (λ outcome. (kind : Kind) × (span : Span) × Refuses checking bytes.now kind span × (outcome ≡ stopped (Status.Refused kind span) file.now bytes.now))) }
+{
+    match cc_straight::check(alloc, bytes) {
+        Ok(()) => Ok(()),
         Err(CompileFault::Refused(kind, span)) => {
             Err(stop(alloc, Status::Refused(kind, span), file, bytes))
         }
@@ -87,11 +106,18 @@ fn status_of(ending: Option<Ending>) -> Status
     }
 }
 
-/// Executes a program to its end.
-pub fn execute(alloc: Global, code: Checked) -> Result<Outcome, Stop>
-    ensures { IsEnd result (λ outcome. (source : Source) → RunsAs code source → outcome ≡ ended (run_of source [] program_limits)) }
+/// Executes at most `steps` instructions of a program with these arguments.
+pub fn execute(
+    alloc: Global,
+    code: Checked,
+    arguments: &[Text],
+    steps: u32,
+) -> Result<Outcome, Stop>
+    requires count { length arguments.now < 2 ^ 32 }
+    requires texts { All (λ text. length text < 2 ^ 32) arguments.now }
+    ensures { IsEnd result (λ outcome. (source : Source) → RunsAs code source → IsExecuted source arguments.now steps outcome) }
 {
-    let executed = cc_straight::execute(alloc, code, LIMITS, STEPS)?;
+    let executed = cc_straight::execute(alloc, code, arguments, LIMITS, steps as u64)?;
     let status = status_of(executed.ending);
     let note = note(alloc, &status, "", &[])?;
     Ok(Outcome {
@@ -99,4 +125,48 @@ pub fn execute(alloc: Global, code: Checked) -> Result<Outcome, Stop>
         output: executed.output,
         note,
     })
+}
+
+/// The image of a program.
+pub fn image_of(alloc: Global, code: &Checked) -> Result<Vec<u8>, AllocError>
+    requires { length code.now.code ≤ code_limit }
+    ensures { IfOk result (λ image. IsImage (module_of code.now.code) image.items) }
+{
+    let module = emit(alloc, code.body().code.as_slice())?;
+    write_image(alloc, &module)
+}
+
+/// The name of the image of a file.
+pub fn image_name(alloc: Global, file: &str) -> Result<String, AllocError>
+    ensures { IfOk result (λ name. string_bytes name ≡ image_name file.now) }
+{
+    format!(in alloc; "{file}.exe")
+}
+
+// Ends with a store that failed. It takes no memory.
+fn write_fault(alloc: Global) -> Stop
+    ensures { (file : List ℕ) → result ≡ Stop.With (stopped Status.WriteFault file []) }
+{
+    Stop::With(Outcome {
+        status: Status::WriteFault,
+        output: List::new(alloc),
+        note: List::new(alloc),
+    })
+}
+
+/// Stores bytes under a name.
+pub fn store<F: Files>(alloc: Global, files: &mut F, name: &str, bytes: &[u8]) -> Result<(), Stop>
+    ensures store { MatchResult result
+        (λ _. IsTrue ((F.state files.old).keeps name.now) → (F.state files.new).gives name.now ≡ Some (Some bytes.now))
+        (λ stop. IsStop stop (λ outcome. Rose ((F.state files.old).store_faults name.now) ((F.state files.new).store_faults name.now)
+        × (¬ F.quiet files.old) × (outcome ≡ stopped Status.WriteFault name.now []))) }
+    ensures others { GivesSameBut name.now (F.state files.old) (F.state files.new) }
+    ensures memory { result ≡ Err Stop.OutOfMemory → GivesSame (F.state files.old) (F.state files.new) }
+    ensures goes_on { GoesOn (F.state files.old) (F.state files.new) }
+{
+    match files.store(name, bytes) {
+        Ok(()) => Ok(()),
+        Err(StoreFault::Failed) => Err(write_fault(alloc)),
+        Err(StoreFault::Memory) => Err(Stop::OutOfMemory),
+    }
 }

@@ -1,6 +1,6 @@
 // The answers of the program over files, source and sinks in memory.
 use crate::{Status, cppcli};
-use cc_base::{List, MemoryFiles, MemorySink, MemorySource, NamedBytes, Script};
+use cc_base::{Files, List, MemoryFiles, MemorySink, MemorySource, NamedBytes, Script};
 use std::alloc::{AllocError, Global};
 use std::test::Fail;
 
@@ -53,23 +53,16 @@ fn blanks(alloc: Global, length: usize) -> Result<Vec<u8>, AllocError> {
     Ok(bytes)
 }
 
-// `main` returns a number within so many parentheses.
-fn nested(alloc: Global, depth: usize) -> Result<String, AllocError> {
-    let mut source = String::from_str(alloc, "int main() { return ")?;
-    for _ in 0..depth {
-        source.push('(')?;
-    }
-    source.push('7')?;
-    for _ in 0..depth {
-        source.push(')')?;
-    }
-    source.push_str("; }")?;
-    Ok(source)
-}
-
 // The words, a source, and the status, output and note that they come to.
-const SOURCES: [(&str, &str, u8, &str, &str); 12] = [
+const SOURCES: [(&str, &str, u8, &str, &str); 5] = [
     ("run x.cpp", OVERFLOW, 0, "-2147483648\n", ""),
+    (
+        "run --steps=5 x.cpp -- a",
+        OVERFLOW,
+        251,
+        "-2147483648\n",
+        "limit: steps\n",
+    ),
     ("check x.cpp", OVERFLOW, 0, "", ""),
     (
         "run x.cpp",
@@ -78,56 +71,12 @@ const SOURCES: [(&str, &str, u8, &str, &str); 12] = [
         "",
         "",
     ),
-    ("run x.cpp", "int main() { return 7 - 2 - 1; }", 4, "", ""),
-    (
-        "check x.cpp",
-        "int main() { return 2147483648; }",
-        245,
-        "",
-        "x.cpp:1:21: error 9 NotYet\n",
-    ),
-    (
-        "check x.cpp",
-        "int f();\nint main() { return 0; }",
-        245,
-        "",
-        "x.cpp:1:1: error 9 NotYet\n",
-    ),
-    (
-        "check x.cpp",
-        "int main() { System::Console::Write(1); return 0; }",
-        245,
-        "",
-        "x.cpp:1:14: error 9 NotYet\n",
-    ),
-    ("run x.cpp", "", 245, "", "x.cpp:1:1: error 9 NotYet\n"),
     (
         "run x.cpp",
         "int main() {\n  return \x01; }",
         245,
         "",
         "x.cpp:2:10: error 1 BadByte\n",
-    ),
-    (
-        "run x.cpp",
-        "int main() { return 0 }",
-        245,
-        "",
-        "x.cpp:1:23: error 10 Syntax\n",
-    ),
-    (
-        "check x.cpp",
-        "int main() { double d; return 0; }",
-        245,
-        "",
-        "x.cpp:1:14: error 14 FloatType\n",
-    ),
-    (
-        "check x.cpp",
-        "int main() { int* p; return 0; }",
-        245,
-        "",
-        "x.cpp:1:17: error 13 NativePointer\n",
     ),
 ];
 
@@ -145,41 +94,16 @@ fn sources_end_or_are_refused(rt: HostRuntime) -> Result<(), Fail> {
 }
 
 #[test]
-fn trees_are_at_most_256_deep(rt: HostRuntime) -> Result<(), Fail> {
-    let alloc = rt.alloc();
-    let rows = [
-        ("run x.cpp", 200, 7),
-        ("check x.cpp", 200, 0),
-        ("run x.cpp", 300, 245),
-        ("check x.cpp", 300, 245),
-    ];
-    for (line, depth, exit) in rows {
-        let mut files = one_file(alloc, nested(alloc, depth)?.as_bytes(), 0)?;
-        let written = call(alloc, line, &mut files, 1000)?;
-        assert_eq!(rt; written.status.exit(), exit, "at {depth}");
-    }
-    Ok(())
-}
-
-#[test]
 fn words_and_faults_have_their_answers(rt: HostRuntime) -> Result<(), Fail> {
     let alloc = rt.alloc();
     let usage = "usage: cppcli COMMAND FILE\n";
     let rows = [
         ("", 0, 240, "", usage),
-        ("run", 0, 240, "", usage),
-        ("run x.cpp y.cpp", 0, 240, "", usage),
-        ("run -x.cpp", 0, 240, "", usage),
-        ("check", 0, 240, "", usage),
-        ("check x.cpp y.cpp", 0, 240, "", usage),
-        ("check --all x.cpp", 0, 240, "", usage),
-        ("build x.cpp", 0, 240, "", usage),
-        ("--help", 0, 240, "", usage),
+        ("build x.cpp -- a", 0, 240, "", usage),
         ("run y.cpp", 0, 241, "", "y.cpp: absent\n"),
-        ("check y.cpp", 0, 241, "", "y.cpp: absent\n"),
         ("check x.cpp", 1, 242, "", "read fault\n"),
-        ("run x.cpp", 1, 242, "", "read fault\n"),
         ("run x.cpp", 0, 243, "-2", ""),
+        ("build x.cpp", 2, 243, "", ""),
     ];
     for (line, failing, exit, output, note) in rows {
         let mut files = one_file(alloc, OVERFLOW.as_bytes(), failing)?;
@@ -195,7 +119,7 @@ fn words_and_faults_have_their_answers(rt: HostRuntime) -> Result<(), Fail> {
 fn a_source_has_at_most_1048576_bytes(rt: HostRuntime) -> Result<(), Fail> {
     let alloc = rt.alloc();
     let rows = [
-        (1048576, "x.cpp:1:1: error 9 NotYet\n"),
+        (1048576, "x.cpp:1:1: error 26 BadMain\n"),
         (1048577, "x.cpp: too long\n"),
     ];
     for (length, note) in rows {
@@ -203,5 +127,19 @@ fn a_source_has_at_most_1048576_bytes(rt: HostRuntime) -> Result<(), Fail> {
         let written = call(alloc, "check x.cpp", &mut files, 0)?;
         assert_eq!(rt; written.notes.bytes(), note.as_bytes(), "at {length}");
     }
+    Ok(())
+}
+
+// The image of 72 bytes of header, 28 and 8 of bodies and 396 of metadata is rounded up to 512 bytes, and headers of 512 stand before it.
+#[test]
+fn a_built_image_is_stored(rt: HostRuntime) -> Result<(), Fail> {
+    let alloc = rt.alloc();
+    let mut files = one_file(alloc, OVERFLOW.as_bytes(), 0)?;
+    let written = call(alloc, "build x.cpp", &mut files, 0)?;
+    assert_eq!(rt; written.status.exit(), 0);
+    let mut image = Vec::new(alloc);
+    assert!(rt; files.load("x.cpp.exe", 2000, &mut image).is_ok());
+    assert_eq!(rt; image.len(), 1024);
+    assert!(rt; image.starts_with(b"MZ"));
     Ok(())
 }

@@ -1,15 +1,15 @@
 // The call that is the program.
 ghost use Rattle.std.specs.Prelude.{◌≡◌, List, ℕ, map, string_bytes};
 ghost use Rattle.cppcli.specs.Answers.{IsAnswer, FilesRun, SinksRun};
-ghost use Rattle.cppcli.specs.Complete.{RunsAll, ChecksAll};
+ghost use Rattle.cppcli.specs.Complete.{DoesAll};
 ghost use Rattle.cppcli.specs.Rows.{AnswerTable};
 
 use crate::Status;
 use crate::commands::perform;
 use crate::deliver::deliver;
 use crate::note::USAGE;
-use crate::words::read_words;
 use cc_base::{Files, Sink, Source};
+use cc_words::read_words;
 use std::alloc::Global;
 
 // What `cppcli` does.
@@ -26,8 +26,10 @@ fn answer<F: Files, I: Source, O: Sink, E: Sink>(
     ensures input { I.state input.new ≡ I.state input.old }
 {
     let _ = input;
-    let Some(request) = read_words(words) else {
-        return deliver(Status::Usage, &[], USAGE.as_bytes(), output, notes);
+    let request = match read_words(alloc, words) {
+        Ok(Some(request)) => request,
+        Ok(None) => return deliver(Status::Usage, &[], USAGE.as_bytes(), output, notes),
+        Err(_) => return Status::Memory,
     };
     match perform(alloc, request, files) {
         Ok(outcome) => deliver(
@@ -58,9 +60,7 @@ pub fn cppcli<F: Files, I: Source, O: Sink, E: Sink>(
         (record { output = O.state output.old; output' = O.state output.new; output_takes = O.quiet output.old; notes = E.state notes.old; notes' = E.state notes.new; notes_takes = E.quiet notes.old }) result }
     ensures table { AnswerTable (map (λ word. string_bytes word) words.now) (record { before = F.state files.old; after = F.state files.new; quiet = F.quiet files.old })
         (record { output = O.state output.old; output' = O.state output.new; output_takes = O.quiet output.old; notes = E.state notes.old; notes' = E.state notes.new; notes_takes = E.quiet notes.old }) result }
-    ensures checks { ChecksAll (map (λ word. string_bytes word) words.now) (record { before = F.state files.old; after = F.state files.new; quiet = F.quiet files.old })
-        (record { output = O.state output.old; output' = O.state output.new; output_takes = O.quiet output.old; notes = E.state notes.old; notes' = E.state notes.new; notes_takes = E.quiet notes.old }) result }
-    ensures complete { RunsAll (map (λ word. string_bytes word) words.now) (record { before = F.state files.old; after = F.state files.new; quiet = F.quiet files.old })
+    ensures complete { DoesAll (map (λ word. string_bytes word) words.now) (record { before = F.state files.old; after = F.state files.new; quiet = F.quiet files.old })
         (record { output = O.state output.old; output' = O.state output.new; output_takes = O.quiet output.old; notes = E.state notes.old; notes' = E.state notes.new; notes_takes = E.quiet notes.old }) result }
     ensures input { I.state input.new ≡ I.state input.old }
 {

@@ -1,25 +1,27 @@
-use Rattle.std.proofs.Common.{subst}
-use Rattle.cc_grammar.specs.Parse as parse
-use Rattle.cc_straight.proofs.Refused.{lexical_fault, parse_fault, each_source, its_fault}
-use Rattle.cc_straight.proofs.Units.{accepted_small}
-use Rattle.cc_straight.proofs.Spelled.{few_tokens}
+use Rattle.std.proofs.Common.{rules}
+use Rattle.cc_straight.specs.Form.{unit_source}
+use Rattle.cc_straight.specs.Reading.{execution}
+use Rattle.cc_straight.proofs.Refused.{tree_small, compiled_source, allowed_fault, not_straight_fault, code_fault, some_source, each_source}
 use Rattle.cc_straight.proofs.compiler.compile.Goals as goal
 
-pub returns-in-Err-clause-refused : goal.returns-in-Err-clause-refused
-returns-in-Err-clause-refused c = lexical_fault c.args.text.now _ c.lexical.result c.in-Err.ensures.lexed c.lexical.ensures
-
-pub returns-in-Err-parse-clause-refused : goal.returns-in-Err-parse-clause-refused
-returns-in-Err-parse-clause-refused c =
-    parse_fault c.args.text.now c.in-Ok.tokens c.in-Err-parse.fault c.parsing.result c.in-Ok.ensures.lexed (subst (λ ts. parse.Refuses ts c.in-Err-parse.fault) c.as_slice.ensures c.in-Err-parse.ensures.refused) c.parsing.ensures
+pub returns-in_err-tree-clause-refused : goal.returns-in_err-tree-clause-refused
+returns-in_err-tree-clause-refused c = let refused = c.in_err-tree.ensures execution in search (rules, refused)
 
 pub compile_tree-requires : goal.compile_tree-requires
-compile_tree-requires c =
-    accepted_small c.in-Ok.tokens c.in-Ok-parse.tree (subst (λ ts. parse.Accepts ts c.in-Ok-parse.tree) c.as_slice.ensures c.in-Ok-parse.ensures.tree) (few_tokens c.args.text.now c.in-Ok.tokens c.in-Ok.ensures.lexed c.in-Ok.ensures.count)
+compile_tree-requires c = tree_small c.args.text.now c.in_ok-tree.tree c.in_ok-tree.ensures
+
+pub returns-in_err-code-clause-refused : goal.returns-in_err-code-clause-refused
+returns-in_err-code-clause-refused c =
+    let refused = not_straight_fault c.args.text.now c.in_ok-tree.tree c.in_ok-tree.ensures _ (code_fault _ (unit_source c.in_ok-tree.tree) c.in_err-code.ensures) in
+    search (rules, refused)
+
+pub returns-in_err-allow-clause-refused : goal.returns-in_err-allow-clause-refused
+returns-in_err-allow-clause-refused c =
+    let refused = allowed_fault c.args.text.now c.in_ok-tree.tree c.in_ok-tree.ensures execution _ (compiled_source c.in_ok-code.code (unit_source c.in_ok-tree.tree) c.in_ok-code.ensures) c.in_err-allow.ensures in
+    search (rules, refused)
+
+pub returns-clause-compiled : goal.returns-clause-compiled
+returns-clause-compiled c = some_source c.args.text.now c.in_ok-tree.tree c.in_ok-tree.ensures c.in_ok-allow.ensures.0 c.in_ok-allow.ensures.1 c.in_ok-code.code c.in_ok-code.ensures
 
 pub returns-clause-each : goal.returns-clause-each
-returns-clause-each c =
-    each_source c.args.text.now c.in-Ok.tokens c.in-Ok-parse.tree c.in-Ok.ensures.lexed (subst (λ ts. parse.Accepts ts c.in-Ok-parse.tree) c.as_slice.ensures c.in-Ok-parse.ensures.tree) c.compile_tree.result c.compile_tree.ensures
-
-pub returns-clause-refused : goal.returns-clause-refused
-returns-clause-refused c =
-    its_fault c.args.text.now c.in-Ok.tokens c.in-Ok-parse.tree c.in-Ok.ensures.lexed (subst (λ ts. parse.Accepts ts c.in-Ok-parse.tree) c.as_slice.ensures c.in-Ok-parse.ensures.tree) c.compile_tree.result c.compile_tree.ensures
+returns-clause-each c = each_source c.args.text.now c.in_ok-tree.tree c.in_ok-tree.ensures c.in_ok-allow.ensures.0 c.in_ok-allow.ensures.1 c.in_ok-code.code c.in_ok-code.ensures

@@ -1,0 +1,1 @@
+int main() { double d; return 0; }
