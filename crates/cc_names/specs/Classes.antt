@@ -1,5 +1,5 @@
 -- What the classes of a unit are refused for (ECMA-372, 20.1.2, 21.1, 22.1, 24.1, 34.7): bases, members whose names disposal reserves, members that an interface or a value class cannot have, and value
--- classes that contain themselves.
+-- classes that contain themselves. A base, or the type of what is held, that is not found at its place is no class: nothing is reached by it.
 use Rattle.std.specs.Prelude.{ℕ, List, [], ◌∷◌, ◌++◌, map, codes, Bool, true, false, cond, ◌&&◌, ◌||◌, not, Option, Some, None, is_some}
 use Rattle.std.specs.List.{flat_map, list_any}
 use Rattle.std.specs.Str.{bytes_eq}
@@ -26,11 +26,12 @@ use Rattle.cc_names.specs.declared.classes.BaseSort.{BaseSort}
 use Rattle.cc_names.specs.declared.classes.BaseSort.TheVariants as base_sort
 use Rattle.cc_names.specs.Checks.{Checks, none, refused_if, both, joined}
 use Rattle.cc_names.specs.Spelling.{spelling}
-use Rattle.cc_names.specs.Keys.{Ways, leads}
-use Rattle.cc_names.specs.Outermost.{Path}
+use Rattle.cc_names.specs.Keys.{Ways, leads_from}
+use Rattle.cc_names.specs.Outermost.{Path, within}
 use Rattle.cc_names.specs.Types.{found_type}
 use Rattle.cc_names.specs.Spaces.{Space}
 use Rattle.cc_names.specs.Forming.{is_array}
+use Rattle.cc_names.specs.FullNames.{full_name, optional_full_name, name_list}
 
 abbrev pub open_sort : Form → BaseSort
 open_sort form.Value = base_sort.Closed
@@ -78,18 +79,23 @@ takes_class class_word.Value = false
 takes_class class_word.Interface = false
 
 abbrev pub with_base : Space → Path → Earlier → Base → Earlier
-with_base space path earlier base = record { spellings = earlier.spellings ++ spelling base.of ∷ []; has_class = earlier.has_class || is_class (sort_of_base space path base.of) }
+with_base space path earlier base =
+    record { names = earlier.names ++ name_list (full_name space path base.of); has_class = earlier.has_class || is_class (sort_of_base space path base.of) }
 
--- whether a class of a word cannot have a base of a sort and a spelling after earlier ones
-abbrev pub is_sealed_base : ClassWord → BaseSort → List ℕ → Earlier → Bool
-is_sealed_base word sort spelled earlier =
-    is_closed sort || list_any (λ other. bytes_eq other spelled) earlier.spellings || (is_class sort && (not (takes_class word) || earlier.has_class))
+-- whether a name is among some
+abbrev pub is_among : List (List ℕ) → Option (List ℕ) → Bool
+is_among names None = false
+is_among names (Some name) = list_any (λ other. bytes_eq other name) names
+
+-- whether a class of a word cannot have a base of a sort and a full name after earlier ones
+abbrev pub is_sealed_base : ClassWord → BaseSort → Option (List ℕ) → Earlier → Bool
+is_sealed_base word sort name earlier = is_closed sort || is_among earlier.names name || (is_class sort && (not (takes_class word) || earlier.has_class))
 
 -- what a base is refused for, after the earlier ones of its class
 abbrev pub base_checks : Space → Path → Class → Earlier → Base → Checks
 base_checks space path class earlier base =
-    both (refused_if (leads space.bases (spelling base.of) class.name.name) kind.CyclicBase base.span)
-    (both (refused_if (is_sealed_base class.key.word (sort_of_base space path base.of) (spelling base.of) earlier) kind.SealedBase base.span)
+    both (refused_if (leads_from space.bases (full_name space path base.of) (within path class.name.name)) kind.CyclicBase base.span)
+    (both (refused_if (is_sealed_base class.key.word (sort_of_base space path base.of) (full_name space path base.of) earlier) kind.SealedBase base.span)
     (refused_if (not (is_unknown (sort_of_base space path base.of)) && bytes_eq (spelling base.of) (codes "IDisposable")) kind.ReservedMember base.span))
 
 abbrev pub bases_checks : Space → Path → Class → Earlier → List Base → Checks
@@ -97,7 +103,7 @@ bases_checks space path class earlier [] = none
 bases_checks space path class earlier (base ∷ bases) = both (base_checks space path class earlier base) (bases_checks space path class (with_base space path earlier base) bases)
 
 abbrev pub no_bases : Earlier
-no_bases = record { spellings = []; has_class = false }
+no_bases = record { names = []; has_class = false }
 
 -- the names of disposal's own functions
 abbrev pub is_reserved : List ℕ → Bool
@@ -187,34 +193,38 @@ abbrev pub type_span : TypeName → Span
 type_span = fold-TypeName Span type_span_layer
 
 -- a value class does not contain itself
-abbrev pub held_checks : Space → Class → Option TypeName → Checks
-held_checks space class None = none
-held_checks space class (Some of) = refused_if (leads space.held (spelling of) class.name.name) kind.NotAType (type_span of)
+abbrev pub held_checks : Space → Path → Class → Option TypeName → Checks
+held_checks space path class None = none
+held_checks space path class (Some of) = refused_if (leads_from space.held (full_name space path of) (within path class.name.name)) kind.NotAType (type_span of)
 
-abbrev pub containment_checks : Space → Class → Member → Checks
-containment_checks space class member = cond (is_value_class class.key.word) (held_checks space class (held_type member)) none
+abbrev pub containment_checks : Space → Path → Class → Member → Checks
+containment_checks space path class member = cond (is_value_class class.key.word) (held_checks space path class (held_type member)) none
 
-abbrev pub member_checks : Space → Class → Member → Checks
-member_checks space class member = both (reserved_checks class.key.word member) (containment_checks space class member)
+abbrev pub member_checks : Space → Path → Class → Member → Checks
+member_checks space path class member = both (reserved_checks class.key.word member) (containment_checks space path class member)
 
 abbrev pub class_checks : Space → Path → Class → Checks
-class_checks space path class = both (bases_checks space path class no_bases class.bases) (joined (map (member_checks space class) class.members))
+class_checks space path class = both (bases_checks space path class no_bases class.bases) (joined (map (member_checks space path class) class.members))
 
--- a class with each of its bases, by their spellings
-abbrev pub base_seconds : Class → List (List ℕ)
-base_seconds class = map (λ base. spelling base.of) class.bases
+-- the full names of the bases of a class that are found
+abbrev pub base_seconds : Space → Path → Class → List (List ℕ)
+base_seconds space path class = flat_map (λ base. name_list (full_name space path base.of)) class.bases
 
-abbrev pub held_second : Option TypeName → List (List ℕ)
-held_second None = []
-held_second (Some of) = spelling of ∷ []
+-- the full names of the types of what a value class holds, of those that are found
+abbrev pub held_seconds : Space → Path → Class → List (List ℕ)
+held_seconds space path class = cond (is_value_class class.key.word) (flat_map (λ member. name_list (optional_full_name space path (held_type member))) class.members) []
 
--- a value class with the type of each thing that it holds
-abbrev pub held_seconds : Class → List (List ℕ)
-held_seconds class = cond (is_value_class class.key.word) (flat_map (λ member. held_second (held_type member)) class.members) []
+-- a class with the namespace in which it stands
+pub record Placed : Type 0 where
+  pub path : Path
+  pub class : Class
 
--- the names of classes, each as often as there is something that it leads to
-abbrev pub ways_of : (Class → List (List ℕ)) → List Class → Ways
+abbrev pub placed : Path → Class → Placed
+placed path class = record { path = path; class = class }
+
+-- the full names of classes, each as often as there is something that it leads to
+abbrev pub ways_of : (Path → Class → List (List ℕ)) → List Placed → Ways
 ways_of seconds classes = record {
-  firsts = flat_map (λ class. map (λ second. class.name.name) (seconds class)) classes;
-  seconds = flat_map seconds classes;
+  firsts = flat_map (λ one. map (λ second. within one.path one.class.name.name) (seconds one.path one.class)) classes;
+  seconds = flat_map (λ one. seconds one.path one.class) classes;
 }

@@ -28,3 +28,8 @@ leads_within (suc n) ways from to =
 -- no way needs a pair twice
 abbrev pub leads : Ways → List ℕ → List ℕ → Bool
 leads ways = leads_within (length ways.firsts) ways
+
+-- whether a name leads to a name, where there is one
+abbrev pub leads_from : Ways → Option (List ℕ) → List ℕ → Bool
+leads_from ways None to = false
+leads_from ways (Some from) to = leads ways from to

@@ -19,6 +19,7 @@ pub mod Reaching
 pub mod Types
 pub mod Spaces
 pub mod Forming
+pub mod FullNames
 pub mod Mentions
 pub mod Classes
 pub mod Duplicates

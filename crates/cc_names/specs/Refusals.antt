@@ -15,9 +15,9 @@ use Rattle.cc_names.specs.Checks.{Checks, none, refused_if, both, joined, refusa
 use Rattle.cc_names.specs.Faults.{pair_of}
 use Rattle.cc_names.specs.Spelling.{spelling, signature}
 use Rattle.cc_names.specs.Outermost.{Path, within, Outermost, directive, part, class_, enumeration, forward, template, function, Standing, standings}
-use Rattle.cc_names.specs.Keys.{has}
+use Rattle.cc_names.specs.Keys.{Ways, has}
 use Rattle.cc_names.specs.Types.{named_types, directed, namespaces}
-use Rattle.cc_names.specs.Spaces.{Space}
+use Rattle.cc_names.specs.Spaces.{Space, with_ways}
 use Rattle.cc_names.specs.Mentions as mentions
 use Rattle.cc_names.specs.Classes as classes
 use Rattle.cc_names.specs.Duplicates.{duplicate_checks}
@@ -72,20 +72,30 @@ class_keys all = flat_map (λ one. map (λ class. class_key one.path class.name.
 abbrev pub function_keys : List Standing → List (List ℕ)
 function_keys all = flat_map (λ one. map (function_key one.path) (function_of one.what)) all
 
-abbrev pub classes_of : List Standing → List Class
-classes_of all = flat_map (λ one. class_of one.what) all
+abbrev pub classes_of : List Standing → List classes.Placed
+classes_of all = flat_map (λ one. map (classes.placed one.path) (class_of one.what)) all
 
-abbrev pub space_of : List Standing → Space
-space_of all = record {
+abbrev pub no_ways : Ways
+no_ways = record { firsts = []; seconds = [] }
+
+-- what is named, while no class leads to another
+abbrev pub named_space : List Standing → Space
+named_space all = record {
   types = map (λ one. one.type_) (named_types all);
   names = map (λ one. one.name) (named_types all);
   directives = directed all;
   paths = namespaces all;
   classes = class_keys all;
   functions = function_keys all;
-  bases = classes.ways_of classes.base_seconds (classes_of all);
-  held = classes.ways_of classes.held_seconds (classes_of all);
+  bases = no_ways;
+  held = no_ways;
 }
+
+-- a class leads to the bases and to the held types that are found
+abbrev pub space_of : List Standing → Space
+space_of all =
+    let named = named_space all in
+    with_ways named (classes.ways_of (classes.base_seconds named) (classes_of all)) (classes.ways_of (classes.held_seconds named) (classes_of all))
 
 -- A forward declaration is of a class that the source defines in the same namespace.
 abbrev pub forward_checks : Space → Path → Identifier → Checks

@@ -6,7 +6,6 @@ use Rattle.cc_names.specs.declared.known.Keys.{Keys}
 use Rattle.cc_names.specs.declared.known.Ways as held_ways
 use Rattle.cc_names.specs.declared.known.Space as held_space
 use Rattle.cc_names.specs.Keys.{Ways}
-use Rattle.cc_tree.specs.declared.class.Class.{Class}
 use Rattle.cc_names.specs.declared.space.Types.{Types}
 use Rattle.cc_names.specs.declared.ways.Pairs.{Pairs}
 use Rattle.cc_names.specs.Outermost.{Path}
@@ -38,13 +37,26 @@ space one = record {
   held = ways one.held;
 }
 
+-- a space with the classes that lead to their bases, and to the types of what they hold
+abbrev pub with_ways : Space → Ways → Ways → Space
+with_ways space bases held = record {
+  types = space.types;
+  names = space.names;
+  directives = space.directives;
+  paths = space.paths;
+  classes = space.classes;
+  functions = space.functions;
+  bases = bases;
+  held = held;
+}
+
 -- types with their names, after those that are there
 abbrev pub with_types : Types → List Named → Types
 with_types types more = record { types = types.types ++ map (λ one. one.type_) more; names = types.names ++ map (λ one. one.name) more }
 
--- pairs of a class with names to which it leads, after those that are there
-abbrev pub with_pairs : Pairs → Class → List (List ℕ) → Pairs
-with_pairs pairs class seconds = record { firsts = pairs.firsts ++ map (λ second. class.name.name) seconds; seconds = pairs.seconds ++ seconds }
+-- pairs of a name with names to which it leads, after those that are there
+abbrev pub with_pairs : Pairs → List ℕ → List (List ℕ) → Pairs
+with_pairs pairs name seconds = record { firsts = pairs.firsts ++ map (λ second. name) seconds; seconds = pairs.seconds ++ seconds }
 
 -- pairs, and after them further ones
 abbrev pub after_pairs : Pairs → Ways → Ways

@@ -9,7 +9,7 @@ ghost use Rattle.cc_names.specs.Spaces.{space};
 
 use crate::find_type::Here;
 use crate::refusal::{NameKind, Refusal, refused_if};
-use crate::spelling::spelling;
+use crate::standing::within;
 use cc_base::Span;
 use cc_tree::{Class, ClassWord, Identifier, Member, PropertyName, Storage, TypeName};
 use std::alloc::{AllocError, Global};
@@ -185,15 +185,15 @@ impl Here<'_> {
         class: &Class,
         of: Option<&TypeName>,
     ) -> Result<Option<Refusal>, AllocError>
-        ensures { IfOk result (λ first. first ≡ run (spec.held_checks (space self.now.space.now) «class».now (option_copied of.entry)) so_far) }
+        ensures { IfOk result (λ first. first ≡ run (spec.held_checks (space self.now.space.now) self.now.path.now «class».now (option_copied of.entry)) so_far) }
     {
         let of = match of {
             None => return Ok(so_far),
             Some(of) => of,
         };
-        let spelled = spelling(alloc, of)?;
-        let name = class.name.name.as_slice();
-        let contains = self.space.held.leads(alloc, spelled.as_slice(), name)?;
+        let second = self.full_name(alloc, of)?;
+        let name = within(alloc, self.path, class.name.name.as_slice())?;
+        let contains = self.space.held.leads_from(alloc, &second, name.as_slice())?;
         Ok(refused_if(so_far, contains, NameKind::NotAType, type_span(of)))
     }
 
@@ -205,7 +205,7 @@ impl Here<'_> {
         class: &Class,
         member: &Member,
     ) -> Result<Option<Refusal>, AllocError>
-        ensures { IfOk result (λ first. first ≡ run (spec.member_checks (space self.now.space.now) «class».now member.now) so_far) }
+        ensures { IfOk result (λ first. first ≡ run (spec.member_checks (space self.now.space.now) self.now.path.now «class».now member.now) so_far) }
     {
         let first = reserved(so_far, class.key.word, member);
         if is_value_class(class.key.word) {
@@ -222,7 +222,7 @@ impl Here<'_> {
         alloc: Global,
         class: &Class,
     ) -> Result<Option<Refusal>, AllocError>
-        ensures { IfOk result (λ first. first ≡ run (joined (map (spec.member_checks (space self.now.space.now) «class».now) «class».now.members)) so_far) }
+        ensures { IfOk result (λ first. first ≡ run (joined (map (spec.member_checks (space self.now.space.now) self.now.path.now «class».now) «class».now.members)) so_far) }
     {
         let mut first = so_far;
         'members: for member in class.members.as_slice() {

@@ -1,10 +1,15 @@
 // What classes are refused for: their bases (ECMA-372, 21.1, 22.1 and 24.1).
-ghost use Rattle.std.specs.Prelude.{◌≡◌, List, [], ◌∷◌, ◌&&◌, not, map, Some, IfOk, OnOk};
+ghost use Rattle.std.specs.Prelude.{◌≡◌, List, [], ◌∷◌, ◌++◌, ◌&&◌, ◌||◌, not, map, codes, Some, IfOk, OnOk};
 ghost use Rattle.std.specs.List.{list_any};
 ghost use Rattle.std.specs.Option.{option_copied};
 ghost use Rattle.std.specs.Str.{bytes_eq};
-ghost use Rattle.cc_names.specs.Checks.{run};
+ghost use Rattle.cc_names.specs.declared.refusal.NameKind.TheVariants as NameKind;
+ghost use Rattle.cc_names.specs.Checks as checks;
+ghost use Rattle.cc_names.specs.Checks.{run, both};
 ghost use Rattle.cc_names.specs.Classes as spec;
+ghost use Rattle.cc_names.specs.FullNames.{name_list};
+ghost use Rattle.cc_names.specs.Keys.{leads_from};
+ghost use Rattle.cc_names.specs.Outermost.{within};
 ghost use Rattle.cc_names.specs.Spelling.{spelling};
 ghost use Rattle.cc_names.specs.Spaces.{space};
 
@@ -13,7 +18,8 @@ use crate::forming::is_array;
 use crate::known::{Form, Known};
 use crate::refusal::{NameKind, Refusal, refused_if};
 use crate::spelling::spelling;
-use cc_base::{List, Name};
+use crate::standing::within;
+use cc_base::{List, Name, Span};
 use cc_tree::{Base, Class, ClassWord, TypeName};
 use std::alloc::{AllocError, Global};
 
@@ -98,8 +104,8 @@ fn takes_class(word: ClassWord) -> bool
     }
 }
 
-/// Whether a name is among some.
-fn is_among(names: &[Name], name: &[u8]) -> bool
+/// Whether a name is one of some.
+fn is_one_of(names: &[Name], name: &[u8]) -> bool
     ensures { result ≡ list_any (λ other. bytes_eq other name.now) names.now }
 {
     for other in names {
@@ -110,22 +116,72 @@ fn is_among(names: &[Name], name: &[u8]) -> bool
     false
 }
 
-/// The bases of a class that come before one: their spellings, and whether a class is among them.
+/// Whether a name, where there is one, is among some.
+fn is_among(names: &[Name], name: &Option<Name>) -> bool
+    ensures { result ≡ spec.is_among names.now name.now }
+{
+    match name {
+        None => false,
+        Some(name) => is_one_of(names, name.as_slice()),
+    }
+}
+
+/// The bases of a class that come before one: the full names of those that are found, and whether a class is among them.
 #[derive(Drop)]
 pub(crate) struct Earlier {
-    pub(crate) spellings: List<Name>,
+    pub(crate) names: List<Name>,
     pub(crate) has_class: bool,
 }
 
 impl Earlier {
-    /// Whether a class cannot have a base of a sort and a spelling after these.
-    fn refuses(&self, word: ClassWord, sort: BaseSort, spelled: &[u8]) -> bool
-        ensures { result ≡ spec.is_sealed_base word sort spelled.now self.now }
+    /// Whether a class cannot have a base of a sort and a full name after these.
+    fn refuses(&self, word: ClassWord, sort: BaseSort, name: &Option<Name>) -> bool
+        ensures { result ≡ spec.is_sealed_base word sort name.now self.now }
     {
         is_closed(sort)
-            || is_among(self.spellings.as_slice(), spelled)
+            || is_among(self.names.as_slice(), name)
             || (is_class(sort) && (!takes_class(word) || self.has_class))
     }
+
+    /// Adds a base of a sort and a full name.
+    fn add(&mut self, sort: BaseSort, name: Option<Name>) -> Result<(), AllocError>
+        ensures { OnOk result (self.new ≡ record { names = self.old.names ++ name_list name; has_class = self.old.has_class || spec.is_class sort }) }
+    {
+        self.has_class = self.has_class || is_class(sort);
+        match name {
+            None => Ok(()),
+            Some(name) => {
+                self.names.push(name)?;
+                Ok(())
+            }
+        }
+    }
+}
+
+/// Whether a base that is found is the interface of disposal.
+fn is_disposal(alloc: Global, sort: BaseSort, of: &TypeName) -> Result<bool, AllocError>
+    ensures { IfOk result (λ holds. holds ≡ (not (spec.is_unknown sort) && bytes_eq (spelling of.now) (codes "IDisposable"))) }
+{
+    if is_unknown(sort) {
+        return Ok(false);
+    }
+    let spelled = spelling(alloc, of)?;
+    Ok(spelled.as_slice() == b"IDisposable".as_slice())
+}
+
+/// What a base is refused for by which its class reaches itself, which it cannot have, or which disposal reserves.
+fn refused_base(
+    so_far: Option<Refusal>,
+    is_cyclic: bool,
+    is_sealed: bool,
+    is_disposal: bool,
+    span: Span,
+) -> Option<Refusal>
+    ensures { result ≡ run (both (checks.refused_if is_cyclic NameKind.CyclicBase span) (both (checks.refused_if is_sealed NameKind.SealedBase span) (checks.refused_if is_disposal NameKind.ReservedMember span))) so_far }
+{
+    let first = refused_if(so_far, is_cyclic, NameKind::CyclicBase, span);
+    let first = refused_if(first, is_sealed, NameKind::SealedBase, span);
+    refused_if(first, is_disposal, NameKind::ReservedMember, span)
 }
 
 impl Here<'_> {
@@ -148,6 +204,14 @@ impl Here<'_> {
         }
     }
 
+    /// Whether a class reaches itself by a base of a full name.
+    fn reaches(&self, alloc: Global, base: &Option<Name>, class: &Class) -> Result<bool, AllocError>
+        ensures { IfOk result (λ holds. holds ≡ leads_from (space self.now.space.now).bases base.now (within self.now.path.now «class».now.name.name)) }
+    {
+        let name = within(alloc, self.path, class.name.name.as_slice())?;
+        self.space.bases.leads_from(alloc, base, name.as_slice())
+    }
+
     /// What a base is refused for, after the earlier ones of its class; adds it to these.
     fn base(
         &self,
@@ -161,16 +225,12 @@ impl Here<'_> {
         ensures added { OnOk result (earlier.new ≡ spec.with_base (space self.now.space.now) self.now.path.now earlier.old base.now) }
     {
         let sort = self.base_sort(&base.of);
-        let spelled = spelling(alloc, &base.of)?;
-        let name = class.name.name.as_slice();
-        let is_cyclic = self.space.bases.leads(alloc, spelled.as_slice(), name)?;
-        let is_sealed = earlier.refuses(class.key.word, sort, spelled.as_slice());
-        let is_disposal = !is_unknown(sort) && spelled.as_slice() == b"IDisposable".as_slice();
-        let first = refused_if(so_far, is_cyclic, NameKind::CyclicBase, base.span);
-        let first = refused_if(first, is_sealed, NameKind::SealedBase, base.span);
-        let first = refused_if(first, is_disposal, NameKind::ReservedMember, base.span);
-        earlier.has_class = earlier.has_class || is_class(sort);
-        earlier.spellings.push(spelled)?;
+        let name = self.full_name(alloc, &base.of)?;
+        let is_cyclic = self.reaches(alloc, &name, class)?;
+        let is_sealed = earlier.refuses(class.key.word, sort, &name);
+        let is_disposal = is_disposal(alloc, sort, &base.of)?;
+        let first = refused_base(so_far, is_cyclic, is_sealed, is_disposal, base.span);
+        earlier.add(sort, name)?;
         Ok(first)
     }
 
@@ -184,7 +244,7 @@ impl Here<'_> {
         ensures { IfOk result (λ first. first ≡ run (spec.bases_checks (space self.now.space.now) self.now.path.now «class».now spec.no_bases «class».now.bases) so_far) }
     {
         let mut earlier = Earlier {
-            spellings: List::new(alloc),
+            names: List::new(alloc),
             has_class: false,
         };
         let mut first = so_far;

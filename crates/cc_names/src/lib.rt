@@ -14,6 +14,7 @@ mod duplicates;
 mod fault;
 mod find_type;
 mod forming;
+mod full_names;
 mod index;
 mod keys;
 mod known;

@@ -5,6 +5,7 @@ ghost use Rattle.cc_names.specs.Reaching.{In, has_number, unused};
 ghost use Rattle.cc_names.specs.Spaces.{ways};
 
 use crate::known::Ways;
+use cc_base::Name;
 use std::alloc::{AllocError, Global};
 
 /// Which of some pairs were reached, and in which order.
@@ -108,5 +109,20 @@ impl Ways {
             }
         }
         Ok(false)
+    }
+
+    /// Whether a name leads to a name, or is it, where there is one.
+    pub(crate) fn leads_from(
+        &self,
+        alloc: Global,
+        from: &Option<Name>,
+        to: &[u8],
+    ) -> Result<bool, AllocError>
+        ensures { IfOk result (λ holds. holds ≡ keys.leads_from (ways self.now) from.now to.now) }
+    {
+        match from {
+            None => Ok(false),
+            Some(from) => self.leads(alloc, from.as_slice(), to),
+        }
     }
 }

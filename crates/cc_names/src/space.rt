@@ -12,7 +12,7 @@ use crate::library::{LibraryForm, Row};
 use crate::paths::path_of;
 use crate::spelling::{signature_into, spell};
 use crate::standing::{Outermost, Standing, within};
-use crate::ways::{base_ways, held_ways};
+use crate::ways::{base_ways, held_ways, no_ways};
 use cc_base::{List, Name};
 use cc_tree::{Class, ClassModifier, ClassWord, Function, Template};
 use std::alloc::{AllocError, Global};
@@ -322,9 +322,9 @@ fn function_keys(alloc: Global, all: &[Standing<'_>]) -> Result<List<Name>, Allo
     Ok(list)
 }
 
-/// What the names in a unit may mean.
-pub(crate) fn space_of(alloc: Global, all: &[Standing<'_>]) -> Result<Space, AllocError>
-    ensures { IfOk result (λ made. spaces.space made ≡ spec.space_of (told_all all.now)) }
+/// What the names in a unit may mean, while no class leads to another.
+fn named_space(alloc: Global, all: &[Standing<'_>]) -> Result<Space, AllocError>
+    ensures { IfOk result (λ made. spaces.space made ≡ spec.named_space (told_all all.now)) }
 {
     let Types { types, names } = named_types(alloc, all)?;
     let classes = class_keys(alloc, all)?;
@@ -336,7 +336,19 @@ pub(crate) fn space_of(alloc: Global, all: &[Standing<'_>]) -> Result<Space, All
         paths: namespaces(alloc, all)?,
         classes: Keys::new(alloc, classes)?,
         functions: Keys::new(alloc, functions)?,
-        bases: base_ways(alloc, all)?,
-        held: held_ways(alloc, all)?,
+        bases: no_ways(alloc)?,
+        held: no_ways(alloc)?,
     })
+}
+
+/// What the names in a unit may mean.
+pub(crate) fn space_of(alloc: Global, all: &[Standing<'_>]) -> Result<Space, AllocError>
+    ensures { IfOk result (λ made. spaces.space made ≡ spec.space_of (told_all all.now)) }
+{
+    let mut space = named_space(alloc, all)?;
+    let bases = base_ways(alloc, &space, all)?;
+    let held = held_ways(alloc, &space, all)?;
+    space.bases = bases;
+    space.held = held;
+    Ok(space)
 }

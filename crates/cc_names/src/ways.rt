@@ -1,20 +1,22 @@
-// Which names lead to which: classes to their bases, value classes to the types of what they hold (ECMA-372, 21.1 and 22.1).
+// Which classes lead to which, by their full names: to their bases, value classes to the types of what they hold (ECMA-372, 21.1 and 22.1).
 ghost use Rattle.std.specs.Prelude.{◌≡◌, ◌++◌, List, [], ◌∷◌, map, OnOk, IfOk};
-ghost use Rattle.cc_names.specs.Spelling as spelled;
-ghost use Rattle.std.specs.List.{flat_map, filter_map};
+ghost use Rattle.std.specs.List.{flat_map};
 ghost use Rattle.std.specs.Option.{option_copied};
 ghost use Rattle.cc_names.specs.Classes as classes;
+ghost use Rattle.cc_names.specs.FullNames as names;
 ghost use Rattle.cc_names.specs.Keys as keys;
+ghost use Rattle.cc_names.specs.Outermost.{within};
 ghost use Rattle.cc_names.specs.Refusals as spec;
 ghost use Rattle.cc_names.specs.Spaces as spaces;
+ghost use Rattle.cc_names.specs.Spaces.{space};
 ghost use Rattle.cc_names.specs.Told.{told, told_all};
 
 use crate::class_members::{held_type, is_value_class};
-use crate::known::{Keys, Ways};
-use crate::spelling::spelling;
-use crate::standing::{Outermost, Standing};
+use crate::find_type::Here;
+use crate::known::{Keys, Space, Ways};
+use crate::standing::{Outermost, Standing, within};
 use cc_base::{List, Name};
-use cc_tree::{Class, TypeName};
+use cc_tree::Class;
 use std::alloc::{AllocError, Global};
 
 /// Names, and the names to which they lead in the same order.
@@ -34,50 +36,44 @@ impl Pairs {
         }
     }
 
-    /// Adds a name and the type to which it leads.
-    fn add(&mut self, alloc: Global, class: &Class, of: &TypeName) -> Result<(), AllocError>
-        ensures { OnOk result (self.new ≡ spaces.with_pairs self.old «class».now (spelled.spelling of.now ∷ [])) }
+    /// Adds a name with the name to which it leads, where there is one.
+    fn add(&mut self, alloc: Global, name: &[u8], second: Option<Name>) -> Result<(), AllocError>
+        ensures { OnOk result (self.new ≡ spaces.with_pairs self.old name.now (names.name_list second)) }
     {
-        let second = spelling(alloc, of)?;
-        let name = List::from_slice(alloc, class.name.name.as_slice())?;
-        self.firsts.push(name)?;
-        self.seconds.push(second)?;
-        Ok(())
-    }
-
-    /// Adds a class with each of its bases.
-    fn add_bases(&mut self, alloc: Global, class: &Class) -> Result<(), AllocError>
-        ensures { OnOk result (self.new ≡ spaces.with_pairs self.old «class».now (classes.base_seconds «class».now)) }
-    {
-        for base in class.bases.as_slice() {
-            self.add(alloc, class, &base.of)?;
-        }
-        Ok(())
-    }
-
-    fn add_optional(
-        &mut self,
-        alloc: Global,
-        class: &Class,
-        of: Option<&TypeName>,
-    ) -> Result<(), AllocError>
-        ensures { OnOk result (self.new ≡ spaces.with_pairs self.old «class».now (classes.held_second (option_copied of.entry))) }
-    {
-        match of {
+        match second {
             None => Ok(()),
-            Some(of) => self.add(alloc, class, of),
+            Some(second) => {
+                let first = List::from_slice(alloc, name)?;
+                self.firsts.push(first)?;
+                self.seconds.push(second)?;
+                Ok(())
+            }
         }
     }
 
-    /// Adds a value class with the type of each thing that it holds.
-    fn add_held(&mut self, alloc: Global, class: &Class) -> Result<(), AllocError>
-        ensures { OnOk result (self.new ≡ spaces.with_pairs self.old «class».now (classes.held_seconds «class».now)) }
+    /// Adds a class with each of its bases that is found.
+    fn add_bases(&mut self, alloc: Global, here: &Here<'_>, class: &Class) -> Result<(), AllocError>
+        ensures { OnOk result (self.new ≡ spaces.with_pairs self.old (within here.now.path.now «class».now.name.name) (classes.base_seconds (space here.now.space.now) here.now.path.now «class».now)) }
+    {
+        let name = within(alloc, here.path, class.name.name.as_slice())?;
+        for base in class.bases.as_slice() {
+            let second = here.full_name(alloc, &base.of)?;
+            self.add(alloc, name.as_slice(), second)?;
+        }
+        Ok(())
+    }
+
+    /// Adds a value class with the type of each thing that it holds, where it is found.
+    fn add_held(&mut self, alloc: Global, here: &Here<'_>, class: &Class) -> Result<(), AllocError>
+        ensures { OnOk result (self.new ≡ spaces.with_pairs self.old (within here.now.path.now «class».now.name.name) (classes.held_seconds (space here.now.space.now) here.now.path.now «class».now)) }
     {
         if !is_value_class(class.key.word) {
             return Ok(());
         }
+        let name = within(alloc, here.path, class.name.name.as_slice())?;
         for member in class.members.as_slice() {
-            self.add_optional(alloc, class, held_type(member))?;
+            let second = here.optional_full_name(alloc, held_type(member))?;
+            self.add(alloc, name.as_slice(), second)?;
         }
         Ok(())
     }
@@ -108,27 +104,52 @@ pub(crate) fn class_of<'a>(what: &Outermost<'a>) -> Option<&'a Class>
     }
 }
 
-/// Each class with each of its bases.
-pub(crate) fn base_ways(alloc: Global, all: &[Standing<'_>]) -> Result<Ways, AllocError>
-    ensures { IfOk result (λ made. spaces.ways made ≡ classes.ways_of classes.base_seconds (spec.classes_of (told_all all.now))) }
+/// No class that leads to another.
+pub(crate) fn no_ways(alloc: Global) -> Result<Ways, AllocError>
+    ensures { IfOk result (λ made. spaces.ways made ≡ spec.no_ways) }
+{
+    Pairs::new(alloc).into_ways(alloc)
+}
+
+/// Each class with each of its bases that is found.
+pub(crate) fn base_ways(
+    alloc: Global,
+    space: &Space,
+    all: &[Standing<'_>],
+) -> Result<Ways, AllocError>
+    ensures { IfOk result (λ made. spaces.ways made ≡ classes.ways_of (classes.base_seconds (spaces.space space.now)) (spec.classes_of (told_all all.now))) }
 {
     let mut pairs = Pairs::new(alloc);
     for one in all {
-        if let Some(class) = class_of(&one.what) {
-            pairs.add_bases(alloc, class)?;
+        let here = Here {
+            space,
+            path: one.path.as_slice(),
+        };
+        match class_of(&one.what) {
+            None => {}
+            Some(class) => pairs.add_bases(alloc, &here, class)?,
         }
     }
     pairs.into_ways(alloc)
 }
 
-/// Each value class with the type of each thing that it holds.
-pub(crate) fn held_ways(alloc: Global, all: &[Standing<'_>]) -> Result<Ways, AllocError>
-    ensures { IfOk result (λ made. spaces.ways made ≡ classes.ways_of classes.held_seconds (spec.classes_of (told_all all.now))) }
+/// Each value class with the type of each thing that it holds, where it is found.
+pub(crate) fn held_ways(
+    alloc: Global,
+    space: &Space,
+    all: &[Standing<'_>],
+) -> Result<Ways, AllocError>
+    ensures { IfOk result (λ made. spaces.ways made ≡ classes.ways_of (classes.held_seconds (spaces.space space.now)) (spec.classes_of (told_all all.now))) }
 {
     let mut pairs = Pairs::new(alloc);
     for one in all {
-        if let Some(class) = class_of(&one.what) {
-            pairs.add_held(alloc, class)?;
+        let here = Here {
+            space,
+            path: one.path.as_slice(),
+        };
+        match class_of(&one.what) {
+            None => {}
+            Some(class) => pairs.add_held(alloc, &here, class)?,
         }
     }
     pairs.into_ways(alloc)

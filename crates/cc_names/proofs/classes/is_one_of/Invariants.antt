@@ -1,7 +1,7 @@
 use Rattle.std.proofs.Common.{◌≡◌, drop}
 use Rattle.std.specs.List.{list_any}
 use Rattle.std.specs.Str.{bytes_eq}
-use Rattle.cc_names.proofs.classes.is_among.Given as goal
+use Rattle.cc_names.proofs.classes.is_one_of.Given as goal
 
 abbrev pub invariant-loop-other : goal.invariant-loop-other
 invariant-loop-other l = list_any (λ other. bytes_eq other l.name) (drop l.other-index l.names) ≡ list_any (λ other. bytes_eq other l.name) l.names
