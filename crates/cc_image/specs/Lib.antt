@@ -1,3 +1,4 @@
 pub mod Headers
 pub mod ImageFaults
 pub mod Images
+pub mod Reading

@@ -1,4 +1,4 @@
-//! Modules as files (ECMA-335, II.25): written, and the parts of a file but the metadata read.
+//! Modules as files (ECMA-335, II.25): written, and read.
 #![tactic(auto)]
 
 mod bodies;
@@ -8,6 +8,7 @@ mod headers;
 mod laws;
 mod layout;
 mod ranges;
+mod read;
 mod sizes;
 mod write;
 
@@ -16,5 +17,6 @@ pub use ends::ends_fault;
 pub use fault::ImageFault;
 pub use headers::read_headers;
 pub use laws::written_images;
+pub use read::read_image;
 pub use sizes::Sizes;
 pub use write::write_image;

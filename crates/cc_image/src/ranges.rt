@@ -1,9 +1,12 @@
 // Numbers are of their types, which a proof learns where they are read.
+ghost use Rattle.std.specs.Prelude.{◌<◌, ◌^◌};
 ghost use Rattle.std.specs.List.{AllByRecursion};
 ghost use Rattle.cc_layout.specs.Numbers.{AreBytes};
 ghost use Rattle.cc_cil.specs.Bodies.{IsClauseInRange, IsInRange};
+ghost use Rattle.cc_image.specs.Reading.{HaveRvas};
 
 use cc_cil::{Body, Clause};
+use cc_module::MethodDefRow;
 
 fn read_clause(clause: &Clause)
     ensures { IsClauseInRange clause.now }
@@ -37,4 +40,19 @@ pub fn read_numbers(body: &Body)
     let _locals = body.locals;
     read_code(body.code.as_slice());
     read_clauses(body.clauses.as_slice());
+}
+
+fn read_rva(method: &MethodDefRow)
+    ensures { method.now.rva < 2 ^ 32 }
+{
+    let _rva = method.rva;
+}
+
+/// Reads the RVAs of methods.
+pub fn read_rvas(methods: &[MethodDefRow])
+    ensures { HaveRvas methods.now }
+{
+    for method in methods {
+        read_rva(method);
+    }
 }

@@ -78,7 +78,7 @@ module _ (s : StreamLengths) (fits : 108 + s.tables + s.strings + s.user_strings
     spelled : Spells (headers s) bytes rest
     spelled = subst (λ (x : List ℕ). Spells (headers s) x rest) (sym is) (bytes_of-spells (headers s) rest headers_fit)
 
-    lengths_told : whole s.tables ≡ s.tables → whole s.strings ≡ s.strings → whole s.user_strings ≡ s.user_strings → whole s.blobs ≡ s.blobs → s.user_strings < 2 ^ 24 → lengths_in bytes ≡ s
+    pub lengths_told : whole s.tables ≡ s.tables → whole s.strings ≡ s.strings → whole s.user_strings ≡ s.user_strings → whole s.blobs ≡ s.blobs → s.user_strings < 2 ^ 24 → lengths_in bytes ≡ s
     unfolding headers lengths_in
     lengths_told t r u b few =
         let tables = peeked-stands (headers s) bytes rest 23 36 4 s.tables spelled refl refl in
@@ -89,12 +89,12 @@ module _ (s : StreamLengths) (fits : 108 + s.tables + s.strings + s.user_strings
         let users : min (whole (peeked 4 68 bytes)) 0xFFFFFC ≡ s.user_strings = ap (λ (n : ℕ). min (whole n) 0xFFFFFC) user_strings ∙ ap (λ (n : ℕ). min n 0xFFFFFC) u ∙ least in
         λ i. record { tables = (ap whole tables ∙ t) i; strings = (ap whole strings ∙ r) i; user_strings = users i; blobs = (ap whole blobs ∙ b) i }
 
-    no_fault : lengths_in bytes ≡ s → headers_fault bytes ≡ None
+    pub no_fault : lengths_in bytes ≡ s → headers_fault bytes ≡ None
     no_fault e = ap (λ (x : StreamLengths). first_located (fault_of 0 (headers x) bytes)) e ∙ ap first_located (spells-no_fault 0 (headers s) bytes rest spelled)
 
 -- ---- the metadata of a module
 
-abbrev lengths_of : Module → StreamLengths
+abbrev pub lengths_of : Module → StreamLengths
 lengths_of m = record {
   tables = length (tables_stream (context m) (all_cells m));
   strings = length (strings_stream (names_of (all_cells m)));
@@ -102,16 +102,16 @@ lengths_of m = record {
   blobs = length (blob_stream (blobs_of (all_cells m)));
 }
 
-whole_tables : (m : Module) → whole (length (tables_stream (context m) (all_cells m))) ≡ length (tables_stream (context m) (all_cells m))
+pub whole_tables : (m : Module) → whole (length (tables_stream (context m) (all_cells m))) ≡ length (tables_stream (context m) (all_cells m))
 whole_tables m = whole_padded (bytes_of (tables_header (sizes_of (context m))) ++ flat_map (cell_bytes (context m)) (all_cells m))
 
-whole_strings : (names : List (List ℕ)) → whole (length (strings_stream names)) ≡ length (strings_stream names)
+pub whole_strings : (names : List (List ℕ)) → whole (length (strings_stream names)) ≡ length (strings_stream names)
 whole_strings names = whole_padded (heap_bytes name_entry names)
 
-whole_user_strings : (texts : List (List ℕ)) → whole (length (user_strings_stream texts)) ≡ length (user_strings_stream texts)
+pub whole_user_strings : (texts : List (List ℕ)) → whole (length (user_strings_stream texts)) ≡ length (user_strings_stream texts)
 whole_user_strings texts = whole_padded (0 ∷ flat_map text_entry texts)
 
-whole_blobs : (blobs : List (List ℕ)) → whole (length (blob_stream blobs)) ≡ length (blob_stream blobs)
+pub whole_blobs : (blobs : List (List ℕ)) → whole (length (blob_stream blobs)) ≡ length (blob_stream blobs)
 whole_blobs blobs = whole_padded (heap_bytes blob_entry blobs)
 
 pub headers_stand : HeadersStand

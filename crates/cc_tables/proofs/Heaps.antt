@@ -1,5 +1,5 @@
 -- What a heap tells of a text, and how it grows.
-use Rattle.std.proofs.Common.{◌≡◌, ℕ, ◌+◌, ◌<◌, ◌==◌, Bool, true, false, List, [], ◌∷◌, ◌++◌, length, Some, None, refl, sym, ap, ◌∙◌, ◌⊎◌, inl, inr, arith}
+use Rattle.std.proofs.Common.{◌≡◌, ℕ, ◌+◌, ◌<◌, ◌≤◌, ◌==◌, Bool, true, false, List, [], ◌∷◌, ◌++◌, length, Some, None, refl, sym, ap, ◌∙◌, ◌⊎◌, inl, inr, arith}
 use Rattle.std.specs.List.{flat_map, list_any}
 use Rattle.std.specs.Map.{lookup}
 use Rattle.std.specs.Str.{bytes_eq}
@@ -122,3 +122,18 @@ texts_next items entries (byte ∷ text) new n e t = rw (new_any items (λ (x : 
 pub not_empty : (text : List ℕ) → (length text == 0) ≡ false → 0 < length text
 not_empty [] e = absurd cc
 not_empty (byte ∷ text) e = omega arith
+
+-- ---- a place is within the heap
+
+place_from_within : (entry : List ℕ → List ℕ) (at : ℕ) (texts : List (List ℕ)) (text : List ℕ) → place_from entry at texts text ≤ at + length (flat_map entry texts)
+place_from_within entry at [] text = omega arith
+place_from_within entry at (other ∷ texts) text =
+    let long = ap length (flat_map-cons entry other texts) ∙ length-append (entry other) (flat_map entry texts) in
+    elim (which (bytes_eq text other)) [
+      | inl s ↦ rw s (omega arith)
+      | inr s ↦ rw s (omega (arith, place_from_within entry (at + length (entry other)) texts text, long))
+    ]
+
+pub place_within : (entry : List ℕ → List ℕ) (texts : List (List ℕ)) (text bytes : List ℕ) → bytes ≡ heap_bytes entry texts → place_of entry texts text ≤ length bytes
+place_within entry texts [] bytes b = omega arith
+place_within entry texts (byte ∷ text) bytes b = omega (arith, place_from_within entry 1 texts (byte ∷ text), ap length b)

@@ -92,18 +92,18 @@ place_stays entry texts more (byte ∷ text) = place_stays_by entry texts more (
 
 -- ---- all columns
 
-names_met : (s : Numbered) (cells : List Cell) → (with_cells s cells).names ≡ with_texts s.names (flat_map name_of cells)
+pub names_met : (s : Numbered) (cells : List Cell) → (with_cells s cells).names ≡ with_texts s.names (flat_map name_of cells)
 unfolding with_cell
 names_met s [] = refl
 names_met s (cell ∷ cells) = names_met (with_cell s cell) cells ∙ sym (with_texts-append s.names (name_of cell) (flat_map name_of cells)) ∙ ap (with_texts s.names) (sym (flat_map-cons name_of cell cells))
 
-blobs_met : (s : Numbered) (cells : List Cell) → (with_cells s cells).blobs ≡ with_texts s.blobs (flat_map blob_of cells)
+pub blobs_met : (s : Numbered) (cells : List Cell) → (with_cells s cells).blobs ≡ with_texts s.blobs (flat_map blob_of cells)
 unfolding with_cell
 blobs_met s [] = refl
 blobs_met s (cell ∷ cells) = blobs_met (with_cell s cell) cells ∙ sym (with_texts-append s.blobs (blob_of cell) (flat_map blob_of cells)) ∙ ap (with_texts s.blobs) (sym (flat_map-cons blob_of cell cells))
 
 -- the number of a column stays, whatever comes behind it
-value_stays : (names blobs more_names more_blobs : List (List ℕ)) (cell : Cell)
+pub value_stays : (names blobs more_names more_blobs : List (List ℕ)) (cell : Cell)
     → cell_value (with_texts (with_texts names (name_of cell)) more_names) (with_texts (with_texts blobs (blob_of cell)) more_blobs) cell ≡ cell_value names blobs cell
 value_stays names blobs more_names more_blobs (u1 value) = refl
 value_stays names blobs more_names more_blobs (u2 value) = refl
@@ -115,7 +115,7 @@ value_stays names blobs more_names more_blobs (blob text) = place_stays blob_ent
 value_stays names blobs more_names more_blobs (row table index) = refl
 value_stays names blobs more_names more_blobs (coded kind index) = refl
 
-slots_met : (s : Numbered) (cells : List Cell) → (with_cells s cells).slots ≡ s.slots ++ map (slot_of (with_cells s cells).names (with_cells s cells).blobs) cells
+pub slots_met : (s : Numbered) (cells : List Cell) → (with_cells s cells).slots ≡ s.slots ++ map (slot_of (with_cells s cells).names (with_cells s cells).blobs) cells
 unfolding with_cell
 slots_met s [] = sym (append-nil s.slots)
 slots_met s (cell ∷ cells) =

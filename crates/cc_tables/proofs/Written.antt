@@ -49,62 +49,62 @@ short_cells : (cells : List Cell) (m : Module) → AllByRecursion (FitsCell (row
 short_cells [] m h = tt
 short_cells (cell ∷ cells) m h = (short_cell cell m h.0, short_cells cells m h.1)
 
-parts : {A : Type 0} (P : A → Type 0) (a b : List A) → AllByRecursion P (a ++ b) → AllByRecursion P a × AllByRecursion P b
+pub parts : {A : Type 0} (P : A → Type 0) (a b : List A) → AllByRecursion P (a ++ b) → AllByRecursion P a × AllByRecursion P b
 parts P [] b h = (tt, h)
 parts P (x ∷ a) b h = let p = parts P a b h.1 in ((h.0, p.0), p.1)
 
-abbrev from_constant : Module → List Cell
+abbrev pub from_constant : Module → List Cell
 from_constant m = flat_map of.constant_cells m.constants
 
-abbrev from_member_ref : Module → List Cell
+abbrev pub from_member_ref : Module → List Cell
 from_member_ref m = flat_map of.member_ref_cells m.member_refs ++ from_constant m
 
-abbrev from_interface_impl : Module → List Cell
+abbrev pub from_interface_impl : Module → List Cell
 from_interface_impl m = flat_map of.interface_impl_cells m.interface_impls ++ from_member_ref m
 
-abbrev from_param : Module → List Cell
+abbrev pub from_param : Module → List Cell
 from_param m = flat_map of.param_cells m.params ++ from_interface_impl m
 
-abbrev from_method_def : Module → List Cell
+abbrev pub from_method_def : Module → List Cell
 from_method_def m = flat_map of.method_def_cells m.methods ++ from_param m
 
-abbrev from_field : Module → List Cell
+abbrev pub from_field : Module → List Cell
 from_field m = flat_map of.field_cells m.fields ++ from_method_def m
 
-abbrev from_type_def : Module → List Cell
+abbrev pub from_type_def : Module → List Cell
 from_type_def m = flat_map of.type_def_cells m.type_defs ++ from_field m
 
-abbrev from_type_ref : Module → List Cell
+abbrev pub from_type_ref : Module → List Cell
 from_type_ref m = flat_map of.type_ref_cells m.type_refs ++ from_type_def m
 
-abbrev from_generic_param_constraint : Module → List Cell
+abbrev pub from_generic_param_constraint : Module → List Cell
 from_generic_param_constraint m = flat_map of.generic_param_constraint_cells m.generic_param_constraints
 
-abbrev from_method_spec : Module → List Cell
+abbrev pub from_method_spec : Module → List Cell
 from_method_spec m = flat_map of.method_spec_cells m.method_specs ++ from_generic_param_constraint m
 
-abbrev from_generic_param : Module → List Cell
+abbrev pub from_generic_param : Module → List Cell
 from_generic_param m = flat_map of.generic_param_cells m.generic_params ++ from_method_spec m
 
-abbrev from_assembly_ref : Module → List Cell
+abbrev pub from_assembly_ref : Module → List Cell
 from_assembly_ref m = flat_map of.assembly_ref_cells m.assembly_refs ++ from_generic_param m
 
-abbrev from_assembly : Module → List Cell
+abbrev pub from_assembly : Module → List Cell
 from_assembly m = flat_map of.assembly_cells m.assemblies ++ from_assembly_ref m
 
-abbrev from_type_spec : Module → List Cell
+abbrev pub from_type_spec : Module → List Cell
 from_type_spec m = flat_map of.type_spec_cells m.type_specs ++ from_assembly m
 
-abbrev from_method_impl : Module → List Cell
+abbrev pub from_method_impl : Module → List Cell
 from_method_impl m = flat_map of.method_impl_cells m.method_impls ++ from_type_spec m
 
-abbrev from_method_semantics : Module → List Cell
+abbrev pub from_method_semantics : Module → List Cell
 from_method_semantics m = flat_map of.method_semantics_cells m.method_semantics ++ from_method_impl m
 
-abbrev from_property : Module → List Cell
+abbrev pub from_property : Module → List Cell
 from_property m = flat_map of.property_cells m.properties ++ from_method_semantics m
 
-abbrev from_property_map : Module → List Cell
+abbrev pub from_property_map : Module → List Cell
 from_property_map m = flat_map of.property_map_cells m.property_maps ++ from_property m
 
 -- the columns of each table
@@ -157,7 +157,7 @@ storable_short m h = all_short m (short_cells (all_cells m) m h.columns)
 
 -- ---- sizes
 
-units_long : (units : List ℕ) → length (flat_map (little_endian 2) units) ≡ 2 * length units
+pub units_long : (units : List ℕ) → length (flat_map (little_endian 2) units) ≡ 2 * length units
 units_long [] = refl
 units_long (unit ∷ units) = omega (arith, ap length (flat_map-cons (little_endian 2) unit units), length-append (little_endian 2 unit) (flat_map (little_endian 2) units), units_long units)
 
@@ -167,7 +167,7 @@ entry_long units =
     omega (arith, length-append (compressed (2 * length units + 1)) marked, length-append (flat_map (little_endian 2) units) (special_mark units ∷ []), units_long units)
 
 -- the text of a user string is shorter than the stream
-short_texts : (texts : List (List ℕ)) (size : ℕ) → length (flat_map text_entry texts) < size → size ≤ 2 ^ 29 → AllByRecursion IsShortText texts
+pub short_texts : (texts : List (List ℕ)) (size : ℕ) → length (flat_map text_entry texts) < size → size ≤ 2 ^ 29 → AllByRecursion IsShortText texts
 short_texts [] size h k = tt
 short_texts (text ∷ texts) size h k =
     let whole = ap length (flat_map-cons text_entry text texts) ∙ length-append (text_entry text) (flat_map text_entry texts) in
@@ -187,7 +187,7 @@ bodies_after : (at : ℕ) (bodies : List Body) → at ≤ bodies_end at bodies
 bodies_after at [] = omega arith
 bodies_after at (b ∷ bodies) = omega (arith, bodies_after (aligned (at + length (body_bytes b))) bodies)
 
-aligned_after : (size : ℕ) → size ≤ file_aligned size
+pub aligned_after : (size : ℕ) → size ≤ file_aligned size
 aligned_after size = omega arith
 
 pub storable_size : (m : Module) → IsStorable m → length (metadata_bytes m) < 2 ^ 28

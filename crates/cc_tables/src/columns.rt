@@ -151,8 +151,8 @@ pub(crate) fn columns_of(table: Table) -> &'static [Column]
     }
 }
 
-// How many bytes columns have together.
-fn widths_of(counts: &TableCounts, sizes: StreamSizes, columns: &[Column]) -> u64
+/// How many bytes columns have together.
+pub(crate) fn widths_of(counts: &TableCounts, sizes: StreamSizes, columns: &[Column]) -> u64
     requires { length columns.now ≤ 9 }
     ensures widths { result ≡ sum (map (column_width (sizes_by (table_rows counts.now.counts.items) sizes)) columns.now) }
     ensures fits { result ≤ 72 }
@@ -164,8 +164,8 @@ fn widths_of(counts: &TableCounts, sizes: StreamSizes, columns: &[Column]) -> u6
     total
 }
 
-// How many bytes the rows of a table have together.
-fn table_size(counts: &TableCounts, sizes: StreamSizes, table: Table) -> u64
+/// How many bytes the rows of a table have together.
+pub(crate) fn table_size(counts: &TableCounts, sizes: StreamSizes, table: Table) -> u64
     ensures size { result ≡ table_size (sizes_by (table_rows counts.now.counts.items) sizes) table }
     ensures fits { result ≤ 72 * 2 ^ 32 }
 {
@@ -175,7 +175,8 @@ fn table_size(counts: &TableCounts, sizes: StreamSizes, table: Table) -> u64
 // How many bytes the rows of some tables have together.
 fn tables_size(counts: &TableCounts, sizes: StreamSizes, tables: &[Table]) -> u64
     requires { length tables.now ≤ 20 }
-    ensures { result ≡ sum (map (table_size (sizes_by (table_rows counts.now.counts.items) sizes)) tables.now) }
+    ensures size { result ≡ sum (map (table_size (sizes_by (table_rows counts.now.counts.items) sizes)) tables.now) }
+    ensures fits { result ≤ 20 * (72 * 2 ^ 32) }
 {
     let mut total = 0;
     for table in tables {
@@ -187,7 +188,8 @@ fn tables_size(counts: &TableCounts, sizes: StreamSizes, tables: &[Table]) -> u6
 /// How many bytes the rows of all tables have together, where the heaps have these sizes.
 #[tactic(auto, unfolding(crate::specs::Columns::rows_size))]
 pub fn rows_size(counts: &TableCounts, sizes: StreamSizes) -> u64
-    ensures { result ≡ rows_size (sizes_by (table_rows counts.now.counts.items) sizes) }
+    ensures size { result ≡ rows_size (sizes_by (table_rows counts.now.counts.items) sizes) }
+    ensures fits { result ≤ 20 * (72 * 2 ^ 32) }
 {
     tables_size(counts, sizes, &TABLES)
 }

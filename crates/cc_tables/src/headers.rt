@@ -119,6 +119,7 @@ fn located(fault: FieldFault) -> TableFault
 pub fn read_headers(alloc: Global, bytes: &[u8]) -> Result<StreamLengths, TableFault>
     requires { length bytes.now < 2 ^ 32 }
     ensures lengths { IfOk result (λ lengths. lengths ≡ lengths_in bytes.now) }
+    ensures fit { IfOk result AreLengths }
     ensures found { OnOk result (headers_fault bytes.now ≡ None) }
     ensures fault { (fault : TableFault) → result ≡ Err fault → fault ≢ Memory → headers_fault bytes.now ≡ Some fault }
 {

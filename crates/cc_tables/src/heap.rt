@@ -1,11 +1,15 @@
 // Heaps of names and blobs, each entry once, where it is used first (ECMA-335, II.24.2.3 and II.24.2.4).
-ghost use Rattle.std.specs.Prelude.{◌≡◌, ◌<◌, ◌^◌, ◌++◌, [], ◌∷◌, None, length, IfOk, OnOk};
+ghost use Rattle.std.specs.Prelude.{◌≡◌, ◌≢◌, ◌<◌, ◌≤◌, ◌+◌, ◌^◌, ◌++◌, [], ◌∷◌, Some, None, Err, length, IfOk, OnOk};
 ghost use Rattle.std.specs.Str.{bytes_eq};
 ghost use Rattle.indexmap.specs.IndexMap.{get_by};
 ghost use Rattle.cc_module.specs.Heaps.{padded, filled, heap_bytes, place_of};
 ghost use Rattle.cc_tables.specs.declared.heap.HeapKind.TheVariants.{Blobs};
 ghost use Rattle.cc_tables.specs.Numbering.{entry_of, heap_texts, with_texts, IsHeap};
+ghost use Rattle.cc_tables.specs.Reading.{unused_fault};
+ghost use Rattle.cc_tables.specs.declared.fault.TableFault.{TableFault};
+ghost use Rattle.cc_tables.specs.declared.fault.TableFault.TheVariants.{Memory};
 
+use crate::fault::TableFault;
 use crate::pad::pad;
 use cc_layout::write_compressed;
 use indexmap::IndexMap;
@@ -13,7 +17,7 @@ use std::alloc::{AllocError, Global};
 
 /// What a heap holds.
 #[derive(Clone, Copy, Debug, PartialEq, Eq)]
-pub(crate) enum HeapKind {
+pub enum HeapKind {
     /// Names, each with a zero behind it (II.24.2.3).
     Names,
     /// Blobs, each behind its compressed length (II.24.2.4).
@@ -81,6 +85,38 @@ impl Heap {
         ensures { result ≡ get_by (λ key. bytes_eq text.now key.items) self.now.places }
     {
         self.places.get(text).copied()
+    }
+
+    /// The place of a text's entry; where the entries end, if it has none. The empty text has the place 0.
+    pub(crate) fn place_of(&self, text: &[u8]) -> usize
+        requires { IsHeap self.now.kind self.now }
+        ensures place { result ≡ place_of (entry_of self.now.kind) (heap_texts self.now) text.now }
+        ensures within { result ≤ length self.now.bytes.items }
+    {
+        if text.is_empty() {
+            return 0;
+        }
+        match self.find(text) {
+            Some(place) => place,
+            None => self.bytes.len(),
+        }
+    }
+
+    /// Whether the entries are all that a stream holds, which stands from `at` on. It errs at the first byte behind them.
+    pub(crate) fn check_used(&self, alloc: Global, stream: &[u8], at: u32) -> Result<(), TableFault>
+        requires heap { IsHeap self.now.kind self.now }
+        requires room { at + length stream.now < 2 ^ 32 }
+        ensures found { OnOk result (unused_fault (entry_of self.now.kind) at stream.now (heap_texts self.now) ≡ None) }
+        ensures fault { (fault : TableFault) → result ≡ Err fault → fault ≢ Memory → unused_fault (entry_of self.now.kind) at stream.now (heap_texts self.now) ≡ Some fault }
+    {
+        let mut used = Vec::from_slice(alloc, &self.bytes)?;
+        pad(&mut used)?;
+        if used.as_slice() == stream {
+            Ok(())
+        } else {
+            let end = self.bytes.len().min(stream.len());
+            Err(TableFault::BadStream(at + end as u32))
+        }
     }
 
     /// The bytes of the heap, with zeros up to a multiple of four.

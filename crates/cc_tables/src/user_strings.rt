@@ -29,8 +29,8 @@ fn has_special(units: &[u16]) -> bool
     units.iter().any(|unit| is_special(*unit))
 }
 
-// The last byte of a user string.
-fn special_mark(units: &[u16]) -> u8
+/// The last byte of a user string.
+pub(crate) fn special_mark(units: &[u16]) -> u8
     ensures { result ≡ special_mark units.now }
 {
     if has_special(units) { 1 } else { 0 }
