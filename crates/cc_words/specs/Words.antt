@@ -9,7 +9,7 @@ use Rattle.std.specs.Str.Parse.{starts_with_minus, digits_value}
 use Rattle.clap.specs.Simple.{App}
 use Rattle.cc_words.specs.Options.{file_app, steps_app, are_read, value_in}
 use Rattle.cc_words.specs.declared.command.Command.{Command}
-use Rattle.cc_words.specs.declared.command.Command.TheVariants.{Run, Check, Build}
+use Rattle.cc_words.specs.declared.command.Command.TheVariants.{Run, Check, Build, Dump}
 
 -- A command, the name of its file, the instructions that a program may execute, and the arguments of the program.
 pub record CommandLine : Type 0 where
@@ -27,6 +27,7 @@ command_named word =
     if bytes_eq word (codes "run") then Some Run
     else if bytes_eq word (codes "check") then Some Check
     else if bytes_eq word (codes "build") then Some Build
+    else if bytes_eq word (codes "dump") then Some Dump
     else None
 
 abbrev pub first_command : List (List ℕ) → Option Command
@@ -38,6 +39,7 @@ abbrev pub executes : Command → Bool
 executes Run = true
 executes Check = false
 executes Build = false
+executes Dump = false
 
 -- ---- `--`: the words behind the first one are the program's arguments
 

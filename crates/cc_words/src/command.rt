@@ -9,6 +9,8 @@ pub enum Command {
     Check,
     /// Compiles a file and stores its image.
     Build,
+    /// Prints the listing of an image.
+    Dump,
 }
 
 /// A command and what its words say.

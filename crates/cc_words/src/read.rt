@@ -20,6 +20,7 @@ fn command_named(word: &str) -> Option<Command>
         "run" => Some(Command::Run),
         "check" => Some(Command::Check),
         "build" => Some(Command::Build),
+        "dump" => Some(Command::Dump),
         _ => None,
     }
 }

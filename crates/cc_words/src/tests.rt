@@ -31,6 +31,7 @@ fn words_are_commands_or_none(rt: HostRuntime) -> Result<(), Fail> {
         ),
         ("check x.cpp", Some((Command::Check, 50_000_000, 0))),
         ("build x.cpp", Some((Command::Build, 50_000_000, 0))),
+        ("dump x.cpp", Some((Command::Dump, 50_000_000, 0))),
         ("", None),
         ("run", None),
         ("run x.cpp x.cpp", None),

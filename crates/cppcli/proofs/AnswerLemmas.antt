@@ -1,15 +1,15 @@
 -- How the parts of a call make its answer.
-use Rattle.std.proofs.Common.{◌≡◌, ◌≢◌, ℕ, List, [], ◌∷◌, true, refl, inl, inr}
+use Rattle.std.proofs.Common.{◌≡◌, ℕ, List, [], ◌∷◌, true, refl, inl, inr}
 use Rattle.std.specs.Prelude.{Option, Some, None, is_some}
-use Rattle.cc_base.specs.Outside.{StreamState, GivesSame, GivesSameBut}
+use Rattle.cc_base.specs.Outside.{StreamState, GivesSame}
 use Rattle.cc_base.proofs.Streams.{gains_nothing}
 use Rattle.cc_words.specs.Words.{CommandLine, command_line, first_command, command_named, line_behind}
 use Rattle.cc_words.specs.declared.command.Command.{Command}
-use Rattle.cc_words.specs.declared.command.Command.TheVariants.{Run, Check, Build}
-use Rattle.cppcli.specs.Answers.{FilesRun, SinksRun, KeepsFiles, IsOutcomeOf, IsDelivered, IsAnswer, image_name, stopped}
+use Rattle.cc_words.specs.declared.command.Command.TheVariants.{Run, Check, Build, Dump}
+use Rattle.cppcli.specs.Answers.{FilesRun, SinksRun, KeepsFiles, IsOutcomeOf, IsDelivered, IsAnswer, stopped}
 use Rattle.cppcli.specs.declared.outcome.Outcome.{Outcome}
 use Rattle.cppcli.specs.declared.status.Status.{Status}
-use Rattle.cppcli.specs.declared.status.Status.TheVariants.{Memory, Done, Usage, WriteFault}
+use Rattle.cppcli.specs.declared.status.Status.TheVariants.{Memory, Usage}
 
 -- files that give the same are kept, whatever the command
 pub keeps_same : (line : Option CommandLine) (run : FilesRun) (status : Status) → GivesSame run.before run.after → KeepsFiles line run status
@@ -19,6 +19,7 @@ keeps_same (Some line) run status same = by line.command line.file line.steps li
     by : (command : Command) (file : List ℕ) (steps : ℕ) (arguments : List (List ℕ)) → KeepsFiles (Some (record { command = command; file = file; steps = steps; arguments = arguments })) run status
     by Run file steps arguments = same
     by Check file steps arguments = same
+    by Dump file steps arguments = same
     by Build file steps arguments = (λ name other. same name, λ _ _. same)
 
 -- what a command keeps, as what its words ask for

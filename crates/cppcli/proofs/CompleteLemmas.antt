@@ -1,20 +1,45 @@
 -- What a command comes to where the files tell what is there and no load fails.
-use Rattle.std.proofs.Common.{◌≡◌, inl, inr, ℕ, ◌+◌, ◌≤◌, ◌<◌, List, [], length, take, arith, ap, ◌∙◌, length-take}
+use Rattle.std.proofs.Common.{◌≡◌, ◌≢◌, inl, inr, ℕ, ◌+◌, ◌≤◌, ◌<◌, List, [], length, take, arith, ap, sym, refl, subst, ◌∙◌, length-take}
 use Rattle.std.specs.Prelude.{Option, Some, None}
+use Rattle.cc_emit.specs.Program.{image_limit}
 use Rattle.cc_straight.proofs.Readings.{refuses_not_reads}
 use Rattle.cc_words.specs.Words.{CommandLine}
-use Rattle.cppcli.specs.Answers.{FilesRun, SinksRun, IsLoadFault, IsDelivered, IsAnswer, source_limit, stopped}
-use Rattle.cppcli.specs.Complete.{LoadsWell, BytesComeTo, ComesTo, DoesAll, purpose_of}
+use Rattle.cc_words.specs.declared.command.Command.{Command}
+use Rattle.cc_words.specs.declared.command.Command.TheVariants.{Run, Check, Build, Dump}
+use Rattle.cppcli.specs.Answers.{FilesRun, SinksRun, AfterCompile, AfterImage, IsLoadFault, IsDelivered, IsAnswer, IsListed, source_limit, stopped}
+use Rattle.cppcli.specs.Complete.{LoadsWell, BytesComeTo, BytesOf, ComesTo, DoesAll, ImageComesTo, IsResult, purpose_of}
 use Rattle.cppcli.specs.declared.outcome.Outcome.{Outcome}
 use Rattle.cppcli.specs.declared.status.Status.{Status}
 use Rattle.cppcli.specs.declared.status.Status.TheVariants.{Memory, Absent, ReadFault, TooLong}
-use Rattle.cppcli.proofs.RowLemmas.{Due, due_of}
+use Rattle.cppcli.proofs.RowLemmas.{Due, compiled, listed, due_of}
+
+-- a load that fails shows that nothing is there, or more than the limit
+abbrev Shows : List ℕ → ℕ → Option (List ℕ) → Outcome → Type 0
+Shows file limit None outcome = outcome ≡ stopped Absent file []
+Shows file limit (Some bytes) outcome = (limit < length bytes) × (outcome ≡ stopped TooLong file [])
+
+longer : (limit : ℕ) (bytes front : List ℕ) → take (length front) bytes ≡ front → length front ≡ limit + 1 → limit < length bytes
+longer limit bytes front begins size =
+    let same : length (take (length front) bytes) ≡ length front = ap length begins in
+    omega (arith, size, length-take (length front) bytes, same)
+
+bytes_of : (command : Command) (line : CommandLine) (run : FilesRun) (bytes : List ℕ) (outcome : Outcome) → command ≢ Dump → BytesComeTo line run bytes outcome → BytesOf command line run bytes outcome
+bytes_of Run line run bytes outcome other comes = comes
+bytes_of Check line run bytes outcome other comes = comes
+bytes_of Build line run bytes outcome other comes = comes
+bytes_of Dump line run bytes outcome other comes = absurd (other refl)
+
+image_of : (command : Command) (line : CommandLine) (run : FilesRun) (bytes : List ℕ) (outcome : Outcome) → command ≡ Dump → ImageComesTo line bytes outcome → BytesOf command line run bytes outcome
+image_of command line run bytes outcome is comes = subst (λ (c : Command). BytesOf c line run bytes outcome) (sym is) comes
 
 module _ (line : CommandLine) (run : FilesRun) (well : LoadsWell run line.file) where
-  longer : (bytes front : List ℕ) → take (length front) bytes ≡ front → length front ≡ source_limit + 1 → source_limit < length bytes
-  longer bytes front begins size =
-      let same : length (take (length front) bytes) ≡ length front = ap length begins in
-      omega (arith, size, length-take (length front) bytes, same)
+  fault_shows : (limit : ℕ) (there : Option (List ℕ)) (outcome : Outcome) (status : Status) → run.before.gives line.file ≡ Some there → IsLoadFault run run.before line.file limit status → outcome ≡ stopped status line.file [] → Shows line.file limit there outcome
+  fault_shows limit None outcome Absent gives fault due = due
+  fault_shows limit (Some bytes) outcome Absent gives fault due = absurd (let lacks = rw gives at fault.0 in cc)
+  fault_shows limit there outcome ReadFault gives fault due = absurd (elim well [ inl none ↦ none fault.0 | inr quiet ↦ fault.1 quiet ])
+  fault_shows limit None outcome TooLong gives fault due = absurd (rw gives at fault.1)
+  fault_shows limit (Some bytes) outcome TooLong gives fault due = (longer limit bytes fault.0 (rw gives at fault.1) fault.2, due)
+  fault_shows limit there outcome status gives fault due = absurd fault
 
   too_long_comes : (bytes : List ℕ) (outcome : Outcome) → source_limit < length bytes → outcome ≡ stopped TooLong line.file [] → BytesComeTo line run bytes outcome
   too_long_comes bytes outcome long due = record {
@@ -23,34 +48,56 @@ module _ (line : CommandLine) (run : FilesRun) (well : LoadsWell run line.file) 
     refused = λ short. absurd (omega (arith, long, short));
   }
 
-  fault_comes : (there : Option (List ℕ)) (outcome : Outcome) (status : Status) → run.before.gives line.file ≡ Some there → IsLoadFault run run.before line.file source_limit status → outcome ≡ stopped status line.file [] → ComesTo line run there outcome
-  fault_comes None outcome Absent gives fault due = due
-  fault_comes (Some bytes) outcome Absent gives fault due = absurd (let lacks = rw gives at fault.0 in cc)
-  fault_comes there outcome ReadFault gives fault due = absurd (elim well [ inl none ↦ none fault.0 | inr quiet ↦ fault.1 quiet ])
-  fault_comes None outcome TooLong gives fault due = absurd (rw gives at fault.1)
-  fault_comes (Some bytes) outcome TooLong gives fault due = too_long_comes bytes outcome (longer bytes fault.0 (rw gives at fault.1) fault.2) due
-  fault_comes there outcome status gives fault due = absurd fault
+  too_long_image : (bytes : List ℕ) (outcome : Outcome) → image_limit < length bytes → outcome ≡ stopped TooLong line.file [] → ImageComesTo line bytes outcome
+  too_long_image bytes outcome long due = record {
+    too_long = λ _. due;
+    listed = λ short. absurd (omega (arith, long, short));
+    refused = λ short. absurd (omega (arith, long, short));
+  }
+
+  compiled_comes : (bytes : List ℕ) (outcome : Outcome) → length bytes ≤ source_limit → AfterCompile (purpose_of line.command) line.file bytes outcome (λ source. IsResult line run source outcome) → BytesComeTo line run bytes outcome
+  compiled_comes bytes outcome short (inl refused) = record {
+    too_long = λ long. absurd (omega (arith, long, short));
+    accepted = λ _ source reads. absurd (refuses_not_reads (purpose_of line.command) bytes refused.0 refused.1 source refused.2 reads);
+    refused = λ _ none. refused;
+  }
+  compiled_comes bytes outcome short (inr accepted) = record {
+    too_long = λ long. absurd (omega (arith, long, short));
+    accepted = λ _ source reads. accepted.1 source reads;
+    refused = λ _ none. absurd (none accepted.0.0 accepted.0.1);
+  }
+
+  read_comes : (bytes : List ℕ) (outcome : Outcome) → length bytes ≤ image_limit → AfterImage line.file bytes outcome (λ m. IsListed m outcome) → ImageComesTo line bytes outcome
+  read_comes bytes outcome short (inl fault) = record {
+    too_long = λ long. absurd (omega (arith, long, short));
+    listed = λ _ m storable range is. absurd (fault.1.none m storable range is);
+    refused = λ _ none. fault;
+  }
+  read_comes bytes outcome short (inr found) = record {
+    too_long = λ long. absurd (omega (arith, long, short));
+    listed = λ _ m storable range is. rw (found.1.only m storable range is) at found.2;
+    refused = λ _ none. absurd (none found.0 found.1.storable found.1.is_image);
+  }
 
   comes_to : (there : Option (List ℕ)) (outcome : Outcome) → run.before.gives line.file ≡ Some there → Due line run outcome → ComesTo line run there outcome
-  comes_to there outcome gives (inl fault) = fault_comes there outcome outcome.status gives fault.0 fault.1
-  comes_to None outcome gives (inr loaded) = absurd (let holds = rw gives at loaded.1 in cc)
-  comes_to (Some bytes) outcome gives (inr loaded) =
+  comes_to None outcome gives (compiled other same (inl fault)) = fault_shows source_limit None outcome outcome.status gives fault.0 fault.1
+  comes_to (Some bytes) outcome gives (compiled other same (inl fault)) =
+      let shown = fault_shows source_limit (Some bytes) outcome outcome.status gives fault.0 fault.1 in
+      bytes_of line.command line run bytes outcome other (too_long_comes bytes outcome shown.0 shown.1)
+  comes_to None outcome gives (compiled other same (inr loaded)) = absurd (let holds = rw gives at loaded.1 in cc)
+  comes_to (Some bytes) outcome gives (compiled other same (inr loaded)) =
       let holds = rw gives at loaded.1 in
-      let same : loaded.0 ≡ bytes = cc in
-      let short : length bytes ≤ source_limit = rw (← same) loaded.2 in
-      let compiled = rw same at loaded.3 in
-      elim compiled [
-        | inl refused ↦ record {
-          too_long = λ long. absurd (omega (arith, long, short));
-          accepted = λ _ source reads. absurd (refuses_not_reads (purpose_of line.command) bytes refused.0 refused.1 source refused.2 reads);
-          refused = λ _ none. refused;
-        }
-        | inr accepted ↦ record {
-          too_long = λ long. absurd (omega (arith, long, short));
-          accepted = λ _ source reads. accepted.1 source reads;
-          refused = λ _ none. absurd (none accepted.0.0 accepted.0.1);
-        }
-      ]
+      let is : loaded.0 ≡ bytes = cc in
+      bytes_of line.command line run bytes outcome other (compiled_comes bytes outcome (rw (← is) loaded.2) (rw is at loaded.3))
+  comes_to None outcome gives (listed dump (inl fault)) = fault_shows image_limit None outcome outcome.status gives fault.0 fault.1
+  comes_to (Some bytes) outcome gives (listed dump (inl fault)) =
+      let shown = fault_shows image_limit (Some bytes) outcome outcome.status gives fault.0 fault.1 in
+      image_of line.command line run bytes outcome dump (too_long_image bytes outcome shown.0 shown.1)
+  comes_to None outcome gives (listed dump (inr read)) = absurd (let holds = rw gives at read.1 in cc)
+  comes_to (Some bytes) outcome gives (listed dump (inr read)) =
+      let holds = rw gives at read.1 in
+      let is : read.0 ≡ bytes = cc in
+      image_of line.command line run bytes outcome dump (read_comes bytes outcome (rw (← is) read.2) (rw is at read.3))
 
 -- where nothing is to be written, no write fails
 memory_of : (outcome : Outcome) (sinks : SinksRun) (answer : Status) → outcome ≡ stopped Memory [] [] → IsDelivered outcome sinks answer → answer ≡ Memory

@@ -1,28 +1,31 @@
 -- What each answer tells: the rows that follow from the contract of the program.
-use Rattle.std.proofs.Common.{◌≡◌, ◌≢◌, ◌⊎◌, ◌≤◌, ◌<◌, inl, inr, ℕ, ℤ, List, [], refl, ap, ◌∙◌, sym, arith}
-use Rattle.std.specs.Prelude.{Bool, true, false, Option, Some, None, is_some}
-use Rattle.cc_base.specs.Outside.{FilesState, Gains, Rose}
+use Rattle.std.proofs.Common.{◌≡◌, ◌≢◌, ◌⊎◌, ◌≤◌, ◌<◌, inl, inr, ℕ, ℤ, List, refl, ap, ◌∙◌, sym, subst, arith}
+use Rattle.std.specs.Prelude.{Bool, true, false, Option, Some, None, is_some, length}
+use Rattle.cc_base.specs.Outside.{FilesState, Gains, Holds}
 use Rattle.cc_base.specs.declared.kind.Kind.{Kind}
 use Rattle.cc_base.specs.declared.text.Span.{Span}
 use Rattle.cc_base.specs.declared.running.Ending.{Ending}
 use Rattle.cc_base.specs.declared.running.Ending.TheVariants as ending
 use Rattle.cc_core.specs.StraightSource.{Source}
 use Rattle.cc_core.specs.StraightMeaning.{run_of}
+use Rattle.cc_emit.specs.Program.{image_limit}
+use Rattle.cc_image.specs.declared.fault.ImageFault.{ImageFault}
 use Rattle.cc_straight.specs.Executing.{run_length}
 use Rattle.cc_words.specs.Words.{CommandLine, command_line, first_command}
 use Rattle.cc_words.specs.declared.command.Command.{Command}
-use Rattle.cc_words.specs.declared.command.Command.TheVariants.{Run, Check, Build}
-use Rattle.cppcli.specs.Answers.{FilesRun, SinksRun, AfterCompile, AfterLoad, IsBuilt, IsExecuted, IsLoadFault, IsOutcome, IsOutcomeOf, IsOutcomeFor, IsDelivered, IsWritten, IsAnswer, arguments_of, image_name, longest_run, source_limit, program_limits, status_of}
+use Rattle.cc_words.specs.declared.command.Command.TheVariants.{Run, Check, Build, Dump}
+use Rattle.cppcli.specs.Answers.{FilesRun, SinksRun, AfterCompile, AfterImage, AfterLoad, IsListed, IsExecuted, IsLoadFault, IsOutcome, IsOutcomeOf, IsOutcomeFor, IsDelivered, IsWritten, IsAnswer, arguments_of, longest_run, source_limit, program_limits, status_of}
 use Rattle.cppcli.specs.Complete.{IsResult, purpose_of}
-use Rattle.cppcli.specs.Rows.{AcceptedFrom, ForCommand, RefusedFrom, Returns, StoreFails, UsageRow, AbsentRow, ReadFaultRow, WriteFaultRow, TooLongRow, RefusedRow, EndedRow, StepLimitRow, MemoryRow, AnswerTable, DoneRow}
+use Rattle.cppcli.specs.Rows.{limit_of, AcceptedFrom, DoneFrom, ForCommand, NoImageFrom, NotImageRow, RefusedFrom, Returns, StoreFails, UsageRow, AbsentRow, ReadFaultRow, WriteFaultRow, TooLongRow, RefusedRow, EndedRow, StepLimitRow, MemoryRow, AnswerTable, DoneRow}
 use Rattle.cppcli.specs.declared.outcome.Outcome.{Outcome}
 use Rattle.cppcli.specs.declared.status.Status.{Status}
-use Rattle.cppcli.specs.declared.status.Status.TheVariants.{Done, Ended, Usage, Absent, ReadFault, WriteFault, TooLong, Refused, Aborted, HeapLimit, DepthLimit, StepLimit, Going, Memory}
+use Rattle.cppcli.specs.declared.status.Status.TheVariants.{Done, Ended, Usage, Absent, ReadFault, WriteFault, TooLong, Refused, NotImage, Aborted, HeapLimit, DepthLimit, StepLimit, Going, Memory}
 
 -- where a status comes from
 data Stage : Type 0 where
   at_load : Stage
   at_compilation : Stage
+  at_image : Stage
   at_execution : Stage
   at_store : Stage
   at_end : Stage
@@ -33,6 +36,7 @@ stage_of Absent = at_load
 stage_of ReadFault = at_load
 stage_of TooLong = at_load
 stage_of (Refused kind span) = at_compilation
+stage_of (NotImage fault) = at_image
 stage_of (Ended number) = at_execution
 stage_of (Aborted type message) = at_execution
 stage_of HeapLimit = at_execution
@@ -48,6 +52,7 @@ stage_of Memory = elsewhere
 abbrev is_late : Stage → Bool
 is_late at_load = false
 is_late at_compilation = false
+is_late at_image = false
 is_late at_execution = true
 is_late at_store = true
 is_late at_end = true
@@ -88,34 +93,69 @@ late Run file steps arguments run source outcome is = ap is_late (stage_of_execu
 late Check file steps arguments run source outcome is = ap (λ (o : Outcome). is_late (stage_of o.status)) is
 late Build file steps arguments run source outcome (bytes, image, inl (rose, loud, is)) = ap (λ (o : Outcome). is_late (stage_of o.status)) is
 late Build file steps arguments run source outcome (bytes, image, inr (kept, is)) = ap (λ (o : Outcome). is_late (stage_of o.status)) is
+late Dump file steps arguments run source outcome is = absurd is
 
--- the steps that all commands have
-abbrev pub Due : CommandLine → FilesRun → Outcome → Type 0
-Due line run outcome = AfterLoad run run.before line.file source_limit outcome (λ bytes. AfterCompile (purpose_of line.command) line.file bytes outcome (λ source. IsResult line run source outcome))
+-- the steps of the commands that read a source
+abbrev pub Compiled : CommandLine → FilesRun → Outcome → Type 0
+Compiled line run outcome = AfterLoad run run.before line.file source_limit outcome (λ bytes. AfterCompile (purpose_of line.command) line.file bytes outcome (λ source. IsResult line run source outcome))
+
+-- those of the one that reads an image
+abbrev pub Listed : CommandLine → FilesRun → Outcome → Type 0
+Listed line run outcome = AfterLoad run run.before line.file image_limit outcome (λ bytes. AfterImage line.file bytes outcome (λ m. IsListed m outcome))
+
+-- the steps that a command has
+pub data Due (line : CommandLine) (run : FilesRun) (outcome : Outcome) : Type 0 where
+  compiled : line.command ≢ Dump → limit_of line.command ≡ source_limit → Compiled line run outcome → Due line run outcome
+  listed : line.command ≡ Dump → Listed line run outcome → Due line run outcome
 
 pub due_of : (command : Command) (file : List ℕ) (steps : ℕ) (arguments : List (List ℕ)) (run : FilesRun) (outcome : Outcome)
     → IsOutcomeOf (record { command = command; file = file; steps = steps; arguments = arguments }) run outcome → Due (record { command = command; file = file; steps = steps; arguments = arguments }) run outcome
-due_of Run file steps arguments run outcome is = is
-due_of Check file steps arguments run outcome is = is
-due_of Build file steps arguments run outcome is = is
+due_of Run file steps arguments run outcome is = compiled (λ other. cc) refl is
+due_of Check file steps arguments run outcome is = compiled (λ other. cc) refl is
+due_of Build file steps arguments run outcome is = compiled (λ other. cc) refl is
+due_of Dump file steps arguments run outcome is = listed refl is
+
+-- where the stage of the outcome of an image is
+stage_of_image : (line : CommandLine) (bytes : List ℕ) (outcome : Outcome) → AfterImage line.file bytes outcome (λ m. IsListed m outcome) → (stage_of outcome.status ≡ at_image) ⊎ (stage_of outcome.status ≡ at_end)
+stage_of_image line bytes outcome (inl none) = inl (ap (λ (o : Outcome). stage_of o.status) none.2)
+stage_of_image line bytes outcome (inr found) = inr (ap (λ (o : Outcome). stage_of o.status) found.2.2)
 
 -- an outcome by its stage
-at_its_load : (line : CommandLine) (run : FilesRun) (outcome : Outcome) → stage_of outcome.status ≡ at_load → Due line run outcome → IsLoadFault run run.before line.file source_limit outcome.status
-at_its_load line run outcome at (inl fault) = fault.0
-at_its_load line run outcome at (inr loaded) = absurd (elim loaded.3 [
-  | inl refused ↦ let due : outcome.status ≡ Refused refused.0 refused.1 = ap status_of_outcome refused.3 in let other : stage_of outcome.status ≡ at_compilation = ap stage_of due in cc
+at_its_load : (line : CommandLine) (run : FilesRun) (outcome : Outcome) → stage_of outcome.status ≡ at_load → Due line run outcome → IsLoadFault run run.before line.file (limit_of line.command) outcome.status
+at_its_load line run outcome at (compiled other same (inl fault)) = subst (λ (n : ℕ). IsLoadFault run run.before line.file n outcome.status) (sym same) fault.0
+at_its_load line run outcome at (compiled other same (inr loaded)) = absurd (elim loaded.3 [
+  | inl refused ↦ let due : outcome.status ≡ Refused refused.0 refused.1 = ap status_of_outcome refused.3 in let stage : stage_of outcome.status ≡ at_compilation = ap stage_of due in cc
   | inr accepted ↦ let behind = late line.command line.file line.steps line.arguments run accepted.0.0 outcome (accepted.1 accepted.0.0 accepted.0.1) in let before : is_late (stage_of outcome.status) ≡ false = ap is_late at in cc
 ])
+at_its_load line run outcome at (listed is (inl fault)) = subst (λ (n : ℕ). IsLoadFault run run.before line.file n outcome.status) (sym (ap limit_of is)) fault.0
+at_its_load line run outcome at (listed is (inr read)) = absurd (elim (stage_of_image line read.0 outcome read.3) [ inl none ↦ cc | inr found ↦ cc ])
 
 at_its_compilation : (line : CommandLine) (run : FilesRun) (outcome : Outcome) (kind : Kind) (span : Span) → outcome.status ≡ Refused kind span → Due line run outcome → RefusedFrom run line kind span
-at_its_compilation line run outcome kind span is (inl fault) = absurd (let at : stage_of outcome.status ≡ at_load = stage_of_load run run.before line.file source_limit outcome.status fault.0 in let other : stage_of outcome.status ≡ at_compilation = ap stage_of is in cc)
-at_its_compilation line run outcome kind span is (inr loaded) = elim loaded.3 [
+at_its_compilation line run outcome kind span is (compiled other same (inl fault)) = absurd (let at : stage_of outcome.status ≡ at_load = stage_of_load run run.before line.file source_limit outcome.status fault.0 in let stage : stage_of outcome.status ≡ at_compilation = ap stage_of is in cc)
+at_its_compilation line run outcome kind span is (compiled other same (inr loaded)) = elim loaded.3 [
   | inl refused ↦
       let own : outcome.status ≡ Refused refused.0 refused.1 = ap status_of_outcome refused.3 in
       let kinds : refused.0 ≡ kind = cc in
       let spans : refused.1 ≡ span = cc in
       (loaded.0, loaded.1, loaded.2, rw (← kinds, ← spans) refused.2)
   | inr accepted ↦ absurd (let behind = late line.command line.file line.steps line.arguments run accepted.0.0 outcome (accepted.1 accepted.0.0 accepted.0.1) in let before : is_late (stage_of outcome.status) ≡ false = ap (λ (s : Status). is_late (stage_of s)) is in cc)
+]
+at_its_compilation line run outcome kind span is (listed dump (inl fault)) = absurd (let at : stage_of outcome.status ≡ at_load = stage_of_load run run.before line.file image_limit outcome.status fault.0 in let stage : stage_of outcome.status ≡ at_compilation = ap stage_of is in cc)
+at_its_compilation line run outcome kind span is (listed dump (inr read)) = absurd (let stage : stage_of outcome.status ≡ at_compilation = ap stage_of is in elim (stage_of_image line read.0 outcome read.3) [ inl none ↦ cc | inr found ↦ cc ])
+
+at_its_image : (line : CommandLine) (run : FilesRun) (outcome : Outcome) (fault : ImageFault) → outcome.status ≡ NotImage fault → Due line run outcome → (line.command ≡ Dump) × NoImageFrom run line.file fault
+at_its_image line run outcome fault is (compiled other same (inl failed)) = absurd (let at : stage_of outcome.status ≡ at_load = stage_of_load run run.before line.file source_limit outcome.status failed.0 in let stage : stage_of outcome.status ≡ at_image = ap stage_of is in cc)
+at_its_image line run outcome fault is (compiled other same (inr loaded)) = absurd (elim loaded.3 [
+  | inl refused ↦ let stage : stage_of outcome.status ≡ at_image = ap stage_of is in let at : stage_of outcome.status ≡ at_compilation = ap (λ (o : Outcome). stage_of o.status) refused.3 in cc
+  | inr accepted ↦ let behind = late line.command line.file line.steps line.arguments run accepted.0.0 outcome (accepted.1 accepted.0.0 accepted.0.1) in let before : is_late (stage_of outcome.status) ≡ false = ap (λ (s : Status). is_late (stage_of s)) is in cc
+])
+at_its_image line run outcome fault is (listed dump (inl failed)) = absurd (let at : stage_of outcome.status ≡ at_load = stage_of_load run run.before line.file image_limit outcome.status failed.0 in let stage : stage_of outcome.status ≡ at_image = ap stage_of is in cc)
+at_its_image line run outcome fault is (listed dump (inr read)) = elim read.3 [
+  | inl none ↦
+      let own : outcome.status ≡ NotImage none.0 = ap status_of_outcome none.2 in
+      let faults : none.0 ≡ fault = cc in
+      (dump, (read.0, read.1, read.2, rw (← faults) none.1))
+  | inr found ↦ absurd (let stage : stage_of outcome.status ≡ at_image = ap stage_of is in let at : stage_of outcome.status ≡ at_end = ap (λ (o : Outcome). stage_of o.status) found.2.2 in cc)
 ]
 
 -- the source that a late outcome is of
@@ -124,20 +164,26 @@ record Late (line : CommandLine) (run : FilesRun) (outcome : Outcome) : Type 0 w
   accepted : AcceptedFrom run line.file source
   result : IsResult line run source outcome
 
-at_its_result : (line : CommandLine) (run : FilesRun) (outcome : Outcome) → is_late (stage_of outcome.status) ≡ true → Due line run outcome → Late line run outcome
-at_its_result line run outcome behind (inl fault) = absurd (let at : is_late (stage_of outcome.status) ≡ false = ap is_late (stage_of_load run run.before line.file source_limit outcome.status fault.0) in cc)
-at_its_result line run outcome behind (inr loaded) = elim loaded.3 [
-  | inl refused ↦ absurd (let at : is_late (stage_of outcome.status) ≡ false = ap (λ (o : Outcome). is_late (stage_of o.status)) refused.3 in cc)
-  | inr accepted ↦ record { source = accepted.0.0; accepted = (loaded.0, loaded.1, loaded.2, accepted.0.1); result = accepted.1 accepted.0.0 accepted.0.1 }
-]
+late_from : (line : CommandLine) (run : FilesRun) (outcome : Outcome) (bytes : List ℕ) → is_late (stage_of outcome.status) ≡ true → Holds run.before line.file bytes → length bytes ≤ source_limit
+    → AfterCompile (purpose_of line.command) line.file bytes outcome (λ source. IsResult line run source outcome) → Late line run outcome
+late_from line run outcome bytes behind held short (inl refused) = absurd (let at : is_late (stage_of outcome.status) ≡ false = ap (λ (o : Outcome). is_late (stage_of o.status)) refused.3 in cc)
+late_from line run outcome bytes behind held short (inr accepted) = record { source = accepted.0.0; accepted = (bytes, held, short, accepted.0.1); result = accepted.1 accepted.0.0 accepted.0.1 }
+
+at_its_result : (line : CommandLine) (run : FilesRun) (outcome : Outcome) → is_late (stage_of outcome.status) ≡ true → stage_of outcome.status ≢ at_end → Due line run outcome → Late line run outcome
+at_its_result line run outcome behind before_end (compiled other same (inl fault)) = absurd (let at : is_late (stage_of outcome.status) ≡ false = ap is_late (stage_of_load run run.before line.file source_limit outcome.status fault.0) in cc)
+at_its_result line run outcome behind before_end (compiled other same (inr loaded)) = late_from line run outcome loaded.0 behind loaded.1 loaded.2 loaded.3
+at_its_result line run outcome behind before_end (listed dump (inl fault)) = absurd (let at : is_late (stage_of outcome.status) ≡ false = ap is_late (stage_of_load run run.before line.file image_limit outcome.status fault.0) in cc)
+at_its_result line run outcome behind before_end (listed dump (inr read)) = absurd (elim (stage_of_image line read.0 outcome read.3) [ inl none ↦ let at : is_late (stage_of outcome.status) ≡ false = ap is_late none in cc | inr found ↦ before_end found ])
 
 -- a command's outcome is neither about the words nor want of memory
 not_elsewhere : (line : CommandLine) (run : FilesRun) (outcome : Outcome) → Due line run outcome → stage_of outcome.status ≢ elsewhere
-not_elsewhere line run outcome (inl fault) is = let at : stage_of outcome.status ≡ at_load = stage_of_load run run.before line.file source_limit outcome.status fault.0 in cc
-not_elsewhere line run outcome (inr loaded) is = elim loaded.3 [
+not_elsewhere line run outcome (compiled other same (inl fault)) is = let at : stage_of outcome.status ≡ at_load = stage_of_load run run.before line.file source_limit outcome.status fault.0 in cc
+not_elsewhere line run outcome (compiled other same (inr loaded)) is = elim loaded.3 [
   | inl refused ↦ let at : stage_of outcome.status ≡ at_compilation = ap (λ (o : Outcome). stage_of o.status) refused.3 in cc
   | inr accepted ↦ let behind = late line.command line.file line.steps line.arguments run accepted.0.0 outcome (accepted.1 accepted.0.0 accepted.0.1) in let before : is_late (stage_of outcome.status) ≡ false = ap is_late is in cc
 ]
+not_elsewhere line run outcome (listed dump (inl fault)) is = let at : stage_of outcome.status ≡ at_load = stage_of_load run run.before line.file image_limit outcome.status fault.0 in cc
+not_elsewhere line run outcome (listed dump (inr read)) is = elim (stage_of_image line read.0 outcome read.3) [ inl none ↦ cc | inr found ↦ cc ]
 
 -- a status that is no write fault was due, and all was written
 written_of : (outcome : Outcome) (sinks : SinksRun) (answer : Status) → answer ≢ WriteFault → IsDelivered outcome sinks answer → IsWritten outcome sinks answer
@@ -177,13 +223,13 @@ told_of words run sinks answer status same other staged is =
       written = rw (← same) written;
     }
 
-load_row : (words : List (List ℕ)) (run : FilesRun) (sinks : SinksRun) (status : Status) → stage_of status ≡ at_load → Told words run sinks status → ForCommand words (λ line. IsLoadFault run run.before line.file source_limit status)
+load_row : (words : List (List ℕ)) (run : FilesRun) (sinks : SinksRun) (status : Status) → stage_of status ≡ at_load → Told words run sinks status → ForCommand words (λ line. IsLoadFault run run.before line.file (limit_of line.command) status)
 load_row words run sinks status at told =
     let cause = told.cause in
     (cause.line, cause.words_are, rw (← told.is) (at_its_load cause.line run told.outcome (ap stage_of told.is ∙ at) cause.due))
 
-late_of : (words : List (List ℕ)) (run : FilesRun) (sinks : SinksRun) (status : Status) → is_late (stage_of status) ≡ true → (told : Told words run sinks status) → Late told.cause.line run told.outcome
-late_of words run sinks status at told = at_its_result told.cause.line run told.outcome (ap (λ (s : Status). is_late (stage_of s)) told.is ∙ at) told.cause.due
+late_of : (words : List (List ℕ)) (run : FilesRun) (sinks : SinksRun) (status : Status) → is_late (stage_of status) ≡ true → stage_of status ≢ at_end → (told : Told words run sinks status) → Late told.cause.line run told.outcome
+late_of words run sinks status at before_end told = at_its_result told.cause.line run told.outcome (ap (λ (s : Status). is_late (stage_of s)) told.is ∙ at) (λ end. before_end (sym (ap stage_of told.is) ∙ end)) told.cause.due
 
 absent_row : (words : List (List ℕ)) (run : FilesRun) (sinks : SinksRun) (answer : Status) → IsAnswer words run sinks answer → AbsentRow words run answer
 absent_row words run sinks answer is same = load_row words run sinks Absent refl (told_of words run sinks answer Absent same (λ other. cc) (λ other. cc) is)
@@ -233,13 +279,14 @@ stored_result Run file steps arguments run source outcome status is = absurd (le
 stored_result Check file steps arguments run source outcome status is = absurd (let other : outcome.status ≡ Done = ap status_of_outcome is in cc)
 stored_result Build file steps arguments run source outcome status (bytes, image, inl (rose, loud, is)) = (refl, rose, loud)
 stored_result Build file steps arguments run source outcome status (bytes, image, inr (kept, is)) = absurd (let other : outcome.status ≡ Done = ap status_of_outcome is in cc)
+stored_result Dump file steps arguments run source outcome status is = absurd is
 
 write_fault_row : (words : List (List ℕ)) (run : FilesRun) (sinks : SinksRun) (answer : Status) → IsAnswer words run sinks answer → WriteFaultRow words run sinks answer
 write_fault_row words run sinks answer is fault = elim is.is_delivered [
   | inl written ↦
       let status : is.outcome.status ≡ WriteFault = sym written.as_due ∙ fault in
       let cause = cause_of words run is.outcome (λ at. let other : stage_of is.outcome.status ≡ at_store = ap stage_of status in cc) is.is_outcome in
-      let late_is = at_its_result cause.line run is.outcome (ap (λ (s : Status). is_late (stage_of s)) status) cause.due in
+      let late_is = at_its_result cause.line run is.outcome (ap (λ (s : Status). is_late (stage_of s)) status) (λ end. let other : stage_of is.outcome.status ≡ at_store = ap stage_of status in cc) cause.due in
       inr (cause.line, cause.words_are, stored_result cause.line.command cause.line.file cause.line.steps cause.line.arguments run late_is.source is.outcome status late_is.result)
   | inr cut ↦ elim cut [ inl output ↦ inl (inl output.cause) | inr note ↦ inl (inr note.cause) ]
 ]
@@ -260,11 +307,12 @@ ended_result Run file steps arguments run source outcome number status (inr (few
 ended_result Check file steps arguments run source outcome number status is = absurd (let other : outcome.status ≡ Done = ap status_of_outcome is in cc)
 ended_result Build file steps arguments run source outcome number status (bytes, image, inl (rose, loud, is)) = absurd (let other : outcome.status ≡ WriteFault = ap status_of_outcome is in cc)
 ended_result Build file steps arguments run source outcome number status (bytes, image, inr (kept, is)) = absurd (let other : outcome.status ≡ Done = ap status_of_outcome is in cc)
+ended_result Dump file steps arguments run source outcome number status is = absurd is
 
 ended_row : (words : List (List ℕ)) (run : FilesRun) (sinks : SinksRun) (answer : Status) → IsAnswer words run sinks answer → EndedRow words run sinks answer
 ended_row words run sinks answer is number same =
     let told = told_of words run sinks answer (Ended number) same (λ other. cc) (λ other. cc) is in
-    let late_is = late_of words run sinks (Ended number) refl told in
+    let late_is = late_of words run sinks (Ended number) refl (λ end. cc) told in
     let line = told.cause.line in
     let result = ended_result line.command line.file line.steps line.arguments run late_is.source told.outcome number told.is late_is.result in
     (line, told.cause.words_are, (result.0, late_is.source, told.outcome.output, late_is.accepted, result.1, told.written.output))
@@ -284,28 +332,45 @@ limited_result Run file steps arguments run source outcome status (inr (few, sho
 limited_result Check file steps arguments run source outcome status is = absurd (let other : outcome.status ≡ Done = ap status_of_outcome is in cc)
 limited_result Build file steps arguments run source outcome status (bytes, image, inl (rose, loud, is)) = absurd (let other : outcome.status ≡ WriteFault = ap status_of_outcome is in cc)
 limited_result Build file steps arguments run source outcome status (bytes, image, inr (kept, is)) = absurd (let other : outcome.status ≡ Done = ap status_of_outcome is in cc)
+limited_result Dump file steps arguments run source outcome status is = absurd is
 
 step_limit_row : (words : List (List ℕ)) (run : FilesRun) (sinks : SinksRun) (answer : Status) → IsAnswer words run sinks answer → StepLimitRow words run answer
 step_limit_row words run sinks answer is same =
     let told = told_of words run sinks answer StepLimit same (λ other. cc) (λ other. cc) is in
-    let late_is = late_of words run sinks StepLimit refl told in
+    let late_is = late_of words run sinks StepLimit refl (λ end. cc) told in
     let line = told.cause.line in
     let result = limited_result line.command line.file line.steps line.arguments run late_is.source told.outcome told.is late_is.result in
     (line, told.cause.words_are, (result.0, late_is.source, late_is.accepted, result.1, result.2))
 
--- what was done is no execution
-done_result : (command : Command) (file : List ℕ) (steps : ℕ) (arguments : List (List ℕ)) (run : FilesRun) (source : Source) (outcome : Outcome) → outcome.status ≡ Done
-    → IsResult (record { command = command; file = file; steps = steps; arguments = arguments }) run source outcome → command ≢ Run
-done_result Run file steps arguments run source outcome status is same = let at = stage_of_execution source (arguments_of (record { command = Run; file = file; steps = steps; arguments = arguments })) steps outcome is in let other : stage_of outcome.status ≡ at_end = ap stage_of status in cc
-done_result Check file steps arguments run source outcome status is same = cc
-done_result Build file steps arguments run source outcome status is same = cc
+-- what was done of a source is no execution
+done_result : (command : Command) (file : List ℕ) (steps : ℕ) (arguments : List (List ℕ)) (run : FilesRun) (sinks : SinksRun) (source : Source) (outcome : Outcome) → outcome.status ≡ Done → AcceptedFrom run file source
+    → IsResult (record { command = command; file = file; steps = steps; arguments = arguments }) run source outcome → DoneFrom command run sinks file
+done_result Run file steps arguments run sinks source outcome status accepted is = absurd (let at = stage_of_execution source (arguments_of (record { command = Run; file = file; steps = steps; arguments = arguments })) steps outcome is in let other : stage_of outcome.status ≡ at_end = ap stage_of status in cc)
+done_result Check file steps arguments run sinks source outcome status accepted is = (source, accepted)
+done_result Build file steps arguments run sinks source outcome status accepted is = (source, accepted)
+done_result Dump file steps arguments run sinks source outcome status accepted is = absurd is
 
-done_row : (words : List (List ℕ)) (run : FilesRun) (sinks : SinksRun) (answer : Status) → IsAnswer words run sinks answer → DoneRow words run answer
+done_from : (line : CommandLine) (run : FilesRun) (sinks : SinksRun) (outcome : Outcome) → outcome.status ≡ Done → Gains sinks.output sinks.output' outcome.output → Due line run outcome → DoneFrom line.command run sinks line.file
+done_from line run sinks outcome status gains (compiled other same (inl fault)) = absurd (let at : stage_of outcome.status ≡ at_load = stage_of_load run run.before line.file source_limit outcome.status fault.0 in let end : stage_of outcome.status ≡ at_end = ap stage_of status in cc)
+done_from line run sinks outcome status gains (compiled other same (inr loaded)) =
+    let late_is = late_from line run outcome loaded.0 (ap (λ (s : Status). is_late (stage_of s)) status) loaded.1 loaded.2 loaded.3 in
+    done_result line.command line.file line.steps line.arguments run sinks late_is.source outcome status late_is.accepted late_is.result
+done_from line run sinks outcome status gains (listed dump (inl fault)) = absurd (let at : stage_of outcome.status ≡ at_load = stage_of_load run run.before line.file image_limit outcome.status fault.0 in let end : stage_of outcome.status ≡ at_end = ap stage_of status in cc)
+done_from line run sinks outcome status gains (listed dump (inr read)) = elim read.3 [
+  | inl none ↦ absurd (let at : stage_of outcome.status ≡ at_image = ap (λ (o : Outcome). stage_of o.status) none.2 in let end : stage_of outcome.status ≡ at_end = ap stage_of status in cc)
+  | inr found ↦ subst (λ (command : Command). DoneFrom command run sinks line.file) (sym dump)
+      (found.2.0, (read.0, found.0, read.1, read.2, found.1, found.2.1), subst (λ (text : List ℕ). Gains sinks.output sinks.output' text) (ap output_of_outcome found.2.2) gains)
+]
+
+done_row : (words : List (List ℕ)) (run : FilesRun) (sinks : SinksRun) (answer : Status) → IsAnswer words run sinks answer → DoneRow words run sinks answer
 done_row words run sinks answer is same =
     let told = told_of words run sinks answer Done same (λ other. cc) (λ other. cc) is in
-    let late_is = late_of words run sinks Done refl told in
-    let line = told.cause.line in
-    (line, told.cause.words_are, (done_result line.command line.file line.steps line.arguments run late_is.source told.outcome told.is late_is.result, late_is.source, late_is.accepted))
+    (told.cause.line, told.cause.words_are, done_from told.cause.line run sinks told.outcome told.is told.written.output told.cause.due)
+
+not_image_row : (words : List (List ℕ)) (run : FilesRun) (sinks : SinksRun) (answer : Status) → IsAnswer words run sinks answer → NotImageRow words run answer
+not_image_row words run sinks answer is fault same =
+    let told = told_of words run sinks answer (NotImage fault) same (λ other. cc) (λ other. cc) is in
+    (told.cause.line, told.cause.words_are, at_its_image told.cause.line run told.outcome fault told.is told.cause.due)
 
 pub answer_table : (words : List (List ℕ)) (run : FilesRun) (sinks : SinksRun) (answer : Status) → IsAnswer words run sinks answer → AnswerTable words run sinks answer
 answer_table words run sinks answer is = record {
@@ -315,6 +380,7 @@ answer_table words run sinks answer is = record {
   write_fault = write_fault_row words run sinks answer is;
   too_long = too_long_row words run sinks answer is;
   refused = refused_row words run sinks answer is;
+  not_image = not_image_row words run sinks answer is;
   ended = ended_row words run sinks answer is;
   step_limit = step_limit_row words run sinks answer is;
   done = done_row words run sinks answer is;

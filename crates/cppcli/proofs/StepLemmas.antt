@@ -1,19 +1,25 @@
 -- What a command comes to, from what its steps gave.
-use Rattle.std.proofs.Common.{◌≡◌, ◌≢◌, ◌≤◌, ◌+◌, ◌^◌, refl, inl, inr, ℕ, List, [], length, map, ap, ◌∙◌, sym, subst, arith}
+use Rattle.std.proofs.Common.{◌≡◌, ◌≢◌, ◌≤◌, refl, inl, inr, ℕ, List, [], length, map, ap, ◌∙◌, sym, subst, arith}
 use Rattle.std.specs.Prelude.{Bool, true, false, nat_lt, if◌then◌else◌, Result, Ok, Err, Some, IsErrAnd, IsTrue}
 use Rattle.cc_base.specs.Outside.{FilesState, GoesOn, Holds, Rose}
 use Rattle.cc_cil.specs.declared.body.Body.{Body}
 use Rattle.cc_core.specs.StraightSource.{Source, source_operations}
 use Rattle.cc_base.specs.Cells.{arguments_pass}
-use Rattle.cc_emit.specs.Program.{module_of}
+use Rattle.cc_emit.specs.Program.{image_limit, module_of}
+use Rattle.cc_module.specs.declared.module.Module.{Module}
+use Rattle.cc_module.specs.Storable.{IsInRange, IsStorable}
+use Rattle.cc_image.specs.Reading.{IsFirstFault}
+use Rattle.cc_image.specs.declared.fault.ImageFault.{ImageFault}
+use Rattle.cc_image.specs.declared.fault.ImageFault.TheVariants as image
+use Rattle.cc_listing.specs.Listing.{ListsModule}
 use Rattle.cc_image.specs.Images.{IsImage}
 use Rattle.cc_core.specs.StraightMeaning.{run_of}
 use Rattle.cc_straight.specs.declared.runner.Executed.{Executed}
 use Rattle.cc_straight.specs.Executing.{DoesWithin, run_length}
 use Rattle.cc_straight.specs.Reading.{Reads}
 use Rattle.cc_straight.specs.Straight.{RunsAs}
-use Rattle.cc_words.specs.declared.command.Command.TheVariants.{Run, Check, Build}
-use Rattle.cppcli.specs.Answers.{FilesRun, AfterStore, ForSource, IsExecuted, IsOutcomeOf, image_name, longest_run, program_limits, source_limit, status_of, stopped, units_of, done}
+use Rattle.cc_words.specs.declared.command.Command.TheVariants.{Run, Check, Build, Dump}
+use Rattle.cppcli.specs.Answers.{FilesRun, AfterStore, ForSource, IsExecuted, IsModuleOf, IsNoImage, IsOutcomeOf, image_name, longest_run, program_limits, source_limit, status_of, stopped, units_of, done, printed}
 use Rattle.cppcli.specs.Notes.{note_of}
 use Rattle.cc_emit.proofs.Sizes.{image_within}
 use Rattle.cppcli.proofs.CodeLemmas.{code_within}
@@ -22,7 +28,7 @@ use Rattle.cppcli.specs.declared.outcome.Outcome.{Outcome}
 use Rattle.cppcli.specs.declared.outcome.Stop.{Stop}
 use Rattle.cppcli.specs.declared.outcome.Stop.TheVariants.{OutOfMemory, With}
 use Rattle.cppcli.specs.declared.status.Status.{Status}
-use Rattle.cppcli.specs.declared.status.Status.TheVariants.{WriteFault, StepLimit}
+use Rattle.cppcli.specs.declared.status.Status.TheVariants.{NotImage, WriteFault, StepLimit}
 
 -- a fact of the outcome gives another, however the steps end
 end_of : (result : Result Outcome Stop) (P Q : Outcome → Type 0) → ((outcome : Outcome) → P outcome → Q outcome) → IsEnd result P → IsEnd result Q
@@ -78,6 +84,19 @@ pub build_outcome : (run : FilesRun) (file : List ℕ) (steps : ℕ) (arguments 
     → AfterStore run (image_name file) image outcome (outcome ≡ done) → IsOutcomeOf (record { command = Build; file = file; steps = steps; arguments = arguments }) run outcome
 build_outcome run file steps arguments bytes code image outcome held short compiled is_image after =
     inr (bytes, held, short, inr (compiled.0, λ source reads. (image, record { main = code; runs = compiled.1 source reads; is_image = is_image; few = image_within code.code (code_within code source (compiled.1 source reads)) }, after)))
+
+-- what a fault of an image ends with
+pub image_stopped : (bytes file : List ℕ) (fault : ImageFault) (stop : Stop) → (fault ≢ image.Memory → IsFirstFault bytes fault)
+    → ((m : Module) → IsStorable m → IsInRange m → IsImage m bytes → fault ≡ image.Memory)
+    → IsStop stop (λ outcome. (fault ≢ image.Memory) × (outcome ≡ stopped (NotImage fault) file bytes))
+    → IsStop stop (λ outcome. (f : ImageFault) × IsNoImage bytes f × (outcome ≡ stopped (NotImage f) file bytes))
+image_stopped bytes file fault OutOfMemory first none stop = stop
+image_stopped bytes file fault (With outcome) first none stop = (fault, record { first = first stop.0; none = λ m storable range is. stop.0 (none m storable range is) }, stop.1)
+
+-- a file that was loaded, read as an image and listed
+pub dump_outcome : (run : FilesRun) (file : List ℕ) (steps : ℕ) (arguments : List (List ℕ)) (bytes : List ℕ) (m : Module) (text : List ℕ)
+    → Holds run.before file bytes → length bytes ≤ image_limit → IsModuleOf bytes m → ListsModule m text → IsOutcomeOf (record { command = Dump; file = file; steps = steps; arguments = arguments }) run (printed text)
+dump_outcome run file steps arguments bytes m text held short is lists = inr (bytes, held, short, inr (m, is, (text, lists, refl)))
 
 -- what a store did, seen from before the load
 module _ (run : FilesRun) (middle : FilesState) (quiet : Type 0) (on : GoesOn run.before middle) (name image : List ℕ) where

@@ -13,18 +13,22 @@ use Rattle.cc_core.specs.StraightSource.{Source}
 use Rattle.cc_core.specs.StraightMeaning.{Ran, run_of}
 use Rattle.cppcli.specs.Notes.{note_of}
 use Rattle.cc_cil.specs.declared.body.Body.{Body}
-use Rattle.cc_module.specs.Storable.{image_size}
+use Rattle.cc_module.specs.declared.module.Module.{Module}
+use Rattle.cc_module.specs.Storable.{IsInRange, IsStorable, image_size}
+use Rattle.cc_listing.specs.Listing.{ListsModule}
 use Rattle.cc_straight.specs.Executing.{run_length}
 use Rattle.cc_straight.specs.Reading.{Purpose, execution, checking, Reads, Refuses}
 use Rattle.cc_straight.specs.Straight.{RunsAs}
 use Rattle.cc_emit.specs.Program.{image_limit, module_of}
 use Rattle.cc_image.specs.Images.{IsImage}
+use Rattle.cc_image.specs.Reading.{IsFirstFault}
+use Rattle.cc_image.specs.declared.fault.ImageFault.{ImageFault}
 use Rattle.cc_words.specs.Words.{CommandLine, command_line, first_command}
 use Rattle.cc_words.specs.declared.command.Command.{Command}
-use Rattle.cc_words.specs.declared.command.Command.TheVariants.{Run, Check, Build}
+use Rattle.cc_words.specs.declared.command.Command.TheVariants.{Run, Check, Build, Dump}
 use Rattle.cppcli.specs.declared.outcome.Outcome.{Outcome}
 use Rattle.cppcli.specs.declared.status.Status.{Status}
-use Rattle.cppcli.specs.declared.status.Status.TheVariants.{Done, Ended, Usage, Absent, ReadFault, WriteFault, TooLong, Refused, Aborted, HeapLimit, DepthLimit, StepLimit, Memory}
+use Rattle.cppcli.specs.declared.status.Status.TheVariants.{Done, Ended, Usage, Absent, ReadFault, WriteFault, TooLong, Refused, NotImage, Aborted, HeapLimit, DepthLimit, StepLimit, Memory}
 
 -- the longest source, in bytes
 abbrev pub source_limit : ℕ
@@ -76,6 +80,10 @@ arguments_of line = map units_of line.arguments
 -- the outcome of a command that was done and writes nothing
 abbrev pub done : Outcome
 done = record { status = Done; output = []; note = [] }
+
+-- the outcome of a command that was done and prints a text
+abbrev pub printed : List ℕ → Outcome
+printed text = record { status = Done; output = text; note = [] }
 
 -- The files as the call found them and as it left them, and whether none of their calls could fail.
 pub record FilesRun : Type 1 where
@@ -129,6 +137,27 @@ AfterStore run name bytes outcome next =
 abbrev pub IsBuilt : FilesRun → List ℕ → Source → Outcome → Type 0
 IsBuilt run name source outcome = (bytes : List ℕ) × IsImageOf source bytes × AfterStore run name bytes outcome (outcome ≡ done)
 
+-- the bytes are a file of the module, and of no other
+pub record IsModuleOf (bytes : List ℕ) (m : Module) : Type 0 where
+  pub storable : IsStorable m
+  pub is_image : IsImage m bytes
+  pub only : (other : Module) → IsStorable other → IsInRange other → IsImage other bytes → m ≡ other
+
+-- the bytes are a file of no module, as this check shows first
+pub record IsNoImage (bytes : List ℕ) (fault : ImageFault) : Type 0 where
+  pub first : IsFirstFault bytes fault
+  pub none : (m : Module) → IsStorable m → IsInRange m → IsImage m bytes → ⊥
+
+-- the bytes of the file are read as an image
+abbrev pub AfterImage : List ℕ → List ℕ → Outcome → (Module → Type 0) → Type 0
+AfterImage file bytes outcome next =
+    ((fault : ImageFault) × IsNoImage bytes fault × (outcome ≡ stopped (NotImage fault) file bytes))
+    ⊎ ((m : Module) × IsModuleOf bytes m × next m)
+
+-- the module's listing is printed
+abbrev pub IsListed : Module → Outcome → Type 0
+IsListed m outcome = (text : List ℕ) × ListsModule m text × (outcome ≡ printed text)
+
 -- The commands, each as its steps.
 abbrev pub IsOutcomeOf : CommandLine → FilesRun → Outcome → Type 0
 IsOutcomeOf line run outcome = by line.command
@@ -146,6 +175,10 @@ IsOutcomeOf line run outcome = by line.command
         AfterLoad run run.before line.file source_limit outcome (λ bytes.
         AfterCompile execution line.file bytes outcome (λ source.
         IsBuilt run (image_name line.file) source outcome))
+    by Dump =
+        AfterLoad run run.before line.file image_limit outcome (λ bytes.
+        AfterImage line.file bytes outcome (λ m.
+        IsListed m outcome))
 
 -- what the words ask for; they are no command, or memory runs out, or the command has an outcome
 abbrev pub IsOutcomeFor : Option CommandLine → FilesRun → Outcome → Type 0
@@ -164,6 +197,7 @@ KeepsFiles (Some line) run status = by line.command
     by : Command → Type 0
     by Run = GivesSame run.before run.after
     by Check = GivesSame run.before run.after
+    by Dump = GivesSame run.before run.after
     by Build = GivesSameBut (image_name line.file) run.before run.after × (status ≢ Done → status ≢ WriteFault → GivesSame run.before run.after)
 
 -- The sinks as the call found them and as it left them, and the numbers of bytes that they were sure to take.

@@ -4,26 +4,32 @@ use Rattle.cc_base.specs.Outside.{Rose}
 use Rattle.cc_base.specs.declared.kind.Kind.{Kind}
 use Rattle.cc_base.specs.declared.text.Span.{Span}
 use Rattle.cc_core.specs.StraightSource.{Source}
+use Rattle.cc_module.specs.declared.module.Module.{Module}
+use Rattle.cc_module.specs.Storable.{IsInRange, IsStorable}
+use Rattle.cc_image.specs.Images.{IsImage}
+use Rattle.cc_image.specs.declared.fault.ImageFault.{ImageFault}
+use Rattle.cc_emit.specs.Program.{image_limit}
 use Rattle.cc_straight.specs.Reading.{Purpose, execution, checking, Reads, Refuses}
 use Rattle.cc_words.specs.Words.{CommandLine, command_line}
 use Rattle.cc_words.specs.declared.command.Command.{Command}
-use Rattle.cc_words.specs.declared.command.Command.TheVariants.{Run, Check, Build}
-use Rattle.cppcli.specs.Answers.{FilesRun, SinksRun, IsBuilt, IsDelivered, IsExecuted, arguments_of, image_name, source_limit, stopped, done}
+use Rattle.cc_words.specs.declared.command.Command.TheVariants.{Run, Check, Build, Dump}
+use Rattle.cppcli.specs.Answers.{FilesRun, SinksRun, IsBuilt, IsDelivered, IsExecuted, IsListed, IsNoImage, arguments_of, image_name, source_limit, stopped, done}
 use Rattle.cppcli.specs.declared.outcome.Outcome.{Outcome}
 use Rattle.cppcli.specs.declared.status.Status.{Status}
-use Rattle.cppcli.specs.declared.status.Status.TheVariants.{Absent, TooLong, Refused, Memory}
+use Rattle.cppcli.specs.declared.status.Status.TheVariants.{Absent, TooLong, Refused, NotImage, Memory}
 
 -- no load of this name has failed in the call: its count has not risen, or no call on the files could fail
 abbrev pub LoadsWell : FilesRun → List ℕ → Type 0
 LoadsWell run file = (¬ Rose (run.before.load_faults file) (run.after.load_faults file)) ⊎ run.quiet
 
--- what a command reads its file for
+-- what a command reads its file for, where that is a source
 abbrev pub purpose_of : Command → Purpose
 purpose_of Run = execution
 purpose_of Check = checking
 purpose_of Build = execution
+purpose_of Dump = checking
 
--- what a command makes of a source: its run, nothing, or its image
+-- what a command makes of a source: its run, nothing, or its image; one that reads no source makes nothing of it
 abbrev pub IsResult : CommandLine → FilesRun → Source → Outcome → Type 0
 IsResult line run source outcome = by line.command
   where
@@ -31,17 +37,31 @@ IsResult line run source outcome = by line.command
     by Run = IsExecuted source (arguments_of line) line.steps outcome
     by Check = outcome ≡ done
     by Build = IsBuilt run (image_name line.file) source outcome
+    by Dump = ⊥
 
--- what the bytes of the command's file come to
+-- what the bytes of the command's file come to, where it reads a source
 pub record BytesComeTo (line : CommandLine) (run : FilesRun) (bytes : List ℕ) (outcome : Outcome) : Type 0 where
   pub too_long : source_limit < length bytes → outcome ≡ stopped TooLong line.file []
   pub accepted : length bytes ≤ source_limit → (source : Source) → Reads bytes source → IsResult line run source outcome
   pub refused : length bytes ≤ source_limit → ((source : Source) → Reads bytes source → ⊥) →
       (kind : Kind) × (span : Span) × Refuses (purpose_of line.command) bytes kind span × (outcome ≡ stopped (Refused kind span) line.file bytes)
 
+-- what the bytes of the command's file come to, where it reads an image
+pub record ImageComesTo (line : CommandLine) (bytes : List ℕ) (outcome : Outcome) : Type 0 where
+  pub too_long : image_limit < length bytes → outcome ≡ stopped TooLong line.file []
+  pub listed : length bytes ≤ image_limit → (m : Module) → IsStorable m → IsInRange m → IsImage m bytes → IsListed m outcome
+  pub refused : length bytes ≤ image_limit → ((m : Module) → IsStorable m → IsImage m bytes → ⊥) →
+      (fault : ImageFault) × IsNoImage bytes fault × (outcome ≡ stopped (NotImage fault) line.file bytes)
+
+abbrev pub BytesOf : Command → CommandLine → FilesRun → List ℕ → Outcome → Type 0
+BytesOf Run line run bytes outcome = BytesComeTo line run bytes outcome
+BytesOf Check line run bytes outcome = BytesComeTo line run bytes outcome
+BytesOf Build line run bytes outcome = BytesComeTo line run bytes outcome
+BytesOf Dump line run bytes outcome = ImageComesTo line bytes outcome
+
 abbrev pub ComesTo : CommandLine → FilesRun → Option (List ℕ) → Outcome → Type 0
 ComesTo line run None outcome = outcome ≡ stopped Absent line.file []
-ComesTo line run (Some bytes) outcome = BytesComeTo line run bytes outcome
+ComesTo line run (Some bytes) outcome = BytesOf line.command line run bytes outcome
 
 -- a command delivers what its file's bytes come to, unless memory runs out
 abbrev pub DoesAll : List (List ℕ) → FilesRun → SinksRun → Status → Type 0

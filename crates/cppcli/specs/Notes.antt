@@ -3,9 +3,11 @@ use Rattle.std.specs.Prelude.{ℕ, ◌+◌, List, [], ◌∷◌, ◌++◌, take,
 use Rattle.std.specs.Str.{encode_utf8_all}
 use Rattle.std.specs.Char.Utf16.{utf16_lossy_chars}
 use Rattle.cc_base.specs.Kinds.{kind_number, kind_name}
+use Rattle.cc_image.specs.declared.fault.ImageFault.{ImageFault}
+use Rattle.cc_image.specs.declared.fault.ImageFault.TheVariants as image
 use Rattle.cppcli.specs.declared.note.Place.{Place}
 use Rattle.cppcli.specs.declared.status.Status.{Status}
-use Rattle.cppcli.specs.declared.status.Status.TheVariants.{Usage, Absent, ReadFault, TooLong, Refused, Aborted, HeapLimit, DepthLimit, StepLimit, Going}
+use Rattle.cppcli.specs.declared.status.Status.TheVariants.{Usage, Absent, ReadFault, TooLong, Refused, NotImage, Aborted, HeapLimit, DepthLimit, StepLimit, Going}
 
 -- the place behind these bytes, where they begin at this one
 abbrev pub place_behind : Place → List ℕ → Place
@@ -28,6 +30,17 @@ refusal_line file place number kind =
 abbrev pub unhandled_line : List ℕ → List ℕ → List ℕ
 unhandled_line type message = codes "unhandled " ++ type ++ codes ": " ++ message ++ codes "\n"
 
+-- the number of the reason for which bytes are no image
+abbrev pub image_number : ImageFault → ℕ
+image_number (image.Short place) = 90
+image_number (image.BadField place) = 91
+image_number (image.Metadata fault) = 92
+image_number (image.Code row fault) = 93
+image_number image.Memory = 0
+
+abbrev pub image_line : List ℕ → ℕ → List ℕ
+image_line file number = file ++ codes ": bad image " ++ decimal number ++ codes "\n"
+
 -- by the name whose load decided and, for a refusal, the bytes that it gave
 abbrev pub note_of : Status → List ℕ → List ℕ → List ℕ
 note_of Usage file bytes = codes "usage: cppcli COMMAND FILE\n"
@@ -36,6 +49,7 @@ note_of ReadFault file bytes = codes "read fault\n"
 note_of TooLong file bytes = file ++ codes ": too long\n"
 note_of (Refused kind span) file bytes = refusal_line file (place_of bytes span.first) (kind_number kind) (kind_name kind)
 note_of (Aborted type message) file bytes = unhandled_line (utf8_of type) (utf8_of message)
+note_of (NotImage fault) file bytes = image_line file (image_number fault)
 note_of HeapLimit file bytes = codes "limit: heap\n"
 note_of DepthLimit file bytes = codes "limit: depth\n"
 note_of StepLimit file bytes = codes "limit: steps\n"

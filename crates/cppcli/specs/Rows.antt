@@ -1,19 +1,24 @@
 -- What each answer tells a caller, in a row for each.
-use Rattle.std.specs.Prelude.{◌≡◌, ◌≢◌, ◌⊎◌, ◌≤◌, ◌<◌, ◌+◌, ℕ, ℤ, List, [], length, Some, None, is_some, true}
+use Rattle.std.specs.Prelude.{◌≡◌, ◌⊎◌, ◌≤◌, ◌<◌, ◌+◌, ℕ, ℤ, List, length, Some, None, is_some, true}
 use Rattle.cc_base.specs.Outside.{Rose, Holds, HoldsMore, Lacks, Gains}
 use Rattle.cc_base.specs.declared.kind.Kind.{Kind}
 use Rattle.cc_base.specs.declared.text.Span.{Span}
 use Rattle.cc_base.specs.declared.running.Ending.TheVariants.{Returned}
 use Rattle.cc_core.specs.StraightSource.{Source}
+use Rattle.cc_module.specs.declared.module.Module.{Module}
+use Rattle.cc_image.specs.declared.fault.ImageFault.{ImageFault}
+use Rattle.cc_listing.specs.Listing.{ListsModule}
+use Rattle.cc_emit.specs.Program.{image_limit}
 use Rattle.cc_core.specs.StraightMeaning.{run_of}
 use Rattle.cc_straight.specs.Executing.{run_length}
 use Rattle.cc_straight.specs.Reading.{Reads, Refuses}
 use Rattle.cc_words.specs.Words.{CommandLine, command_line, first_command}
-use Rattle.cc_words.specs.declared.command.Command.TheVariants.{Run, Build}
-use Rattle.cppcli.specs.Answers.{FilesRun, SinksRun, arguments_of, image_name, longest_run, source_limit, program_limits}
+use Rattle.cc_words.specs.declared.command.Command.{Command}
+use Rattle.cc_words.specs.declared.command.Command.TheVariants.{Run, Check, Build, Dump}
+use Rattle.cppcli.specs.Answers.{FilesRun, SinksRun, IsModuleOf, IsNoImage, arguments_of, image_name, longest_run, source_limit, program_limits}
 use Rattle.cppcli.specs.Complete.{purpose_of}
 use Rattle.cppcli.specs.declared.status.Status.{Status}
-use Rattle.cppcli.specs.declared.status.Status.TheVariants.{Done, Ended, Usage, Absent, ReadFault, WriteFault, TooLong, Refused, StepLimit, Memory}
+use Rattle.cppcli.specs.declared.status.Status.TheVariants.{Done, Ended, Usage, Absent, ReadFault, WriteFault, TooLong, Refused, NotImage, StepLimit, Memory}
 
 -- the words are a command of which P holds
 abbrev pub ForCommand : List (List ℕ) → (CommandLine → Type 0) → Type 0
@@ -40,9 +45,16 @@ abbrev pub WriteFaultRow : List (List ℕ) → FilesRun → SinksRun → Status 
 WriteFaultRow words run sinks answer = answer ≡ WriteFault →
     (Rose sinks.output.faults sinks.output'.faults ⊎ Rose sinks.notes.faults sinks.notes'.faults) ⊎ ForCommand words (StoreFails run)
 
+-- the longest file that a command loads, in bytes
+abbrev pub limit_of : Command → ℕ
+limit_of Run = source_limit
+limit_of Check = source_limit
+limit_of Build = source_limit
+limit_of Dump = image_limit
+
 abbrev pub TooLongRow : List (List ℕ) → FilesRun → Status → Type 0
 TooLongRow words run answer = answer ≡ TooLong → ForCommand words (λ line.
-    (front : List ℕ) × HoldsMore run.before line.file front × (length front ≡ source_limit + 1))
+    (front : List ℕ) × HoldsMore run.before line.file front × (length front ≡ limit_of line.command + 1))
 
 -- these files hold bytes under the command's name that the rules refuse so
 abbrev pub RefusedFrom : FilesRun → CommandLine → Kind → Span → Type 0
@@ -50,6 +62,13 @@ RefusedFrom run line kind span = (bytes : List ℕ) × Holds run.before line.fil
 
 abbrev pub RefusedRow : List (List ℕ) → FilesRun → Status → Type 0
 RefusedRow words run answer = (kind : Kind) (span : Span) → answer ≡ Refused kind span → ForCommand words (λ line. RefusedFrom run line kind span)
+
+-- these files hold bytes under the name that are no image, as this check shows first
+abbrev pub NoImageFrom : FilesRun → List ℕ → ImageFault → Type 0
+NoImageFrom run file fault = (bytes : List ℕ) × Holds run.before file bytes × (length bytes ≤ image_limit) × IsNoImage bytes fault
+
+abbrev pub NotImageRow : List (List ℕ) → FilesRun → Status → Type 0
+NotImageRow words run answer = (fault : ImageFault) → answer ≡ NotImage fault → ForCommand words (λ line. (line.command ≡ Dump) × NoImageFrom run line.file fault)
 
 -- these files hold bytes under the name that spell a source
 abbrev pub AcceptedFrom : FilesRun → List ℕ → Source → Type 0
@@ -71,9 +90,19 @@ abbrev pub StepLimitRow : List (List ℕ) → FilesRun → Status → Type 0
 StepLimitRow words run answer = answer ≡ StepLimit → ForCommand words (λ line.
     (line.command ≡ Run) × (source : Source) × AcceptedFrom run line.file source × (line.steps < run_length source (arguments_of line) program_limits) × (line.steps < longest_run))
 
--- a file of which a command was done without an execution is a source
-abbrev pub DoneRow : List (List ℕ) → FilesRun → Status → Type 0
-DoneRow words run answer = answer ≡ Done → ForCommand words (λ line. (line.command ≢ Run) × (source : Source) × AcceptedFrom run line.file source)
+-- these files hold bytes under the name that are an image of a module, whose listing the bytes are
+abbrev pub ListedFrom : FilesRun → List ℕ → List ℕ → Type 0
+ListedFrom run file text = (bytes : List ℕ) × (m : Module) × Holds run.before file bytes × (length bytes ≤ image_limit) × IsModuleOf bytes m × ListsModule m text
+
+-- the file of a command that was done: a source, or an image whose listing was written; an execution ends otherwise
+abbrev pub DoneFrom : Command → FilesRun → SinksRun → List ℕ → Type 0
+DoneFrom Run run sinks file = ⊥
+DoneFrom Check run sinks file = (source : Source) × AcceptedFrom run file source
+DoneFrom Build run sinks file = (source : Source) × AcceptedFrom run file source
+DoneFrom Dump run sinks file = (text : List ℕ) × ListedFrom run file text × Gains sinks.output sinks.output' text
+
+abbrev pub DoneRow : List (List ℕ) → FilesRun → SinksRun → Status → Type 0
+DoneRow words run sinks answer = answer ≡ Done → ForCommand words (λ line. DoneFrom line.command run sinks line.file)
 
 -- Memory is never the answer where the first word is no command
 abbrev pub MemoryRow : List (List ℕ) → Status → Type 0
@@ -87,7 +116,8 @@ pub record AnswerTable (words : List (List ℕ)) (run : FilesRun) (sinks : Sinks
   pub write_fault : WriteFaultRow words run sinks answer
   pub too_long : TooLongRow words run answer
   pub refused : RefusedRow words run answer
+  pub not_image : NotImageRow words run answer
   pub ended : EndedRow words run sinks answer
   pub step_limit : StepLimitRow words run answer
-  pub done : DoneRow words run answer
+  pub done : DoneRow words run sinks answer
   pub memory : MemoryRow words answer

@@ -1,6 +1,6 @@
 // The commands, each as its steps.
 ghost use Rattle.std.specs.Prelude.{◌≡◌, ◌≢◌, ℕ, List, Some, IfOk, map, string_bytes};
-ghost use Rattle.cppcli.specs.Answers.{IsOutcomeOf, KeepsFiles, FilesRun, image_name, done};
+ghost use Rattle.cppcli.specs.Answers.{IsOutcomeOf, KeepsFiles, FilesRun, image_name, done, printed};
 ghost use Rattle.cc_base.specs.Outside.{GivesSame, GivesSameBut};
 ghost use Rattle.cc_words.specs.Shown.{shown};
 ghost use Rattle.cppcli.specs.Stops.{IsEnd, answered_status, ended_status};
@@ -8,13 +8,18 @@ ghost use Rattle.cppcli.specs.Stops.{IsEnd, answered_status, ended_status};
 use crate::Status;
 use crate::arguments::texts_of;
 use crate::outcome::{Outcome, Stop};
-use crate::steps::{check_source, compile, execute, image_name, image_of, load, store};
+use crate::steps::{
+    check_source, compile, execute, image_name, image_of, list_module, load, read_module, store,
+};
 use cc_base::{Files, List};
 use cc_words::{Command, Request};
 use std::alloc::{AllocError, Global};
 
 /// The longest source, in bytes.
 const SOURCE_LIMIT: u32 = 1048576;
+
+/// The longest image, in bytes.
+const IMAGE_LIMIT: u32 = 268435456;
 
 fn run<F: Files>(
     alloc: Global,
@@ -65,6 +70,27 @@ fn build<F: Files>(alloc: Global, file: &str, files: &mut F) -> Result<Outcome, 
     Ok(done(alloc))
 }
 
+// What a command that prints a text comes to.
+fn printed(alloc: Global, text: Vec<u8>) -> Outcome
+    ensures { result ≡ printed text.items }
+{
+    Outcome {
+        status: Status::Done,
+        output: List::from_vec(text),
+        note: List::new(alloc),
+    }
+}
+
+fn dump<F: Files>(alloc: Global, file: &str, files: &mut F) -> Result<Outcome, Stop>
+    ensures outcome { (steps : ℕ) (arguments : List (List ℕ)) → IsEnd result (IsOutcomeOf (record { command = Command.Dump; file = file.now; steps = steps; arguments = arguments }) (record { before = F.state files.old; after = F.state files.new; quiet = F.quiet files.old })) }
+    ensures same { GivesSame (F.state files.old) (F.state files.new) }
+{
+    let bytes = load(alloc, files, file, IMAGE_LIMIT)?;
+    let module = read_module(alloc, file, &bytes)?;
+    let text = list_module(alloc, &module)?;
+    Ok(printed(alloc, text))
+}
+
 // How the steps of a command end.
 fn end_of<F: Files>(alloc: Global, request: Request<'_>, files: &mut F) -> Result<Outcome, Stop>
     ensures outcome { IsEnd result (IsOutcomeOf (shown request.entry) (record { before = F.state files.old; after = F.state files.new; quiet = F.quiet files.old })) }
@@ -74,6 +100,7 @@ fn end_of<F: Files>(alloc: Global, request: Request<'_>, files: &mut F) -> Resul
         Command::Run => run(alloc, request.file, request.steps, request.arguments, files),
         Command::Check => check(alloc, request.file, files),
         Command::Build => build(alloc, request.file, files),
+        Command::Dump => dump(alloc, request.file, files),
     }
 }
 

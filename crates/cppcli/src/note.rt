@@ -1,9 +1,10 @@
 // The line on notes for a status.
 ghost use Rattle.std.specs.Prelude.{◌≡◌, ◌<◌, ◌≤◌, ◌^◌, length, IfOk, string_bytes};
-ghost use Rattle.cppcli.specs.Notes.{note_of, refusal_line, unhandled_line, place_of, utf8_of};
+ghost use Rattle.cppcli.specs.Notes.{note_of, image_line, image_number, refusal_line, unhandled_line, place_of, utf8_of};
 
 use crate::Status;
 use cc_base::{Kind, List, Span};
+use cc_image::ImageFault;
 use std::alloc::{AllocError, Global};
 
 /// The line for words that are no command.
@@ -76,6 +77,25 @@ fn unhandled(alloc: Global, class: &[u16], message: &[u16]) -> Result<String, Al
     format_unhandled(alloc, class.as_str(), message.as_str())
 }
 
+// The number of the reason for which bytes are no image. Want of memory has none.
+fn image_number(fault: ImageFault) -> u32
+    ensures { result ≡ image_number fault }
+{
+    match fault {
+        ImageFault::Short(_) => 90,
+        ImageFault::BadField(_) => 91,
+        ImageFault::Metadata(_) => 92,
+        ImageFault::Code(_, _) => 93,
+        ImageFault::Memory => 0,
+    }
+}
+
+fn format_bad_image(alloc: Global, file: &str, number: u32) -> Result<String, AllocError>
+    ensures { IfOk result (λ line. string_bytes line ≡ image_line file.now number) }
+{
+    format!(in alloc; "{file}: bad image {number}\n")
+}
+
 fn format_note(
     alloc: Global,
     status: &Status,
@@ -92,6 +112,7 @@ fn format_note(
         Status::TooLong => format!(in alloc; "{file}: too long\n"),
         Status::Refused(kind, span) => refusal(alloc, *kind, *span, file, bytes),
         Status::Aborted(class, message) => unhandled(alloc, class.as_slice(), message.as_slice()),
+        Status::NotImage(fault) => format_bad_image(alloc, file, image_number(*fault)),
         Status::HeapLimit => String::from_str(alloc, "limit: heap\n"),
         Status::DepthLimit => String::from_str(alloc, "limit: depth\n"),
         Status::StepLimit => String::from_str(alloc, "limit: steps\n"),

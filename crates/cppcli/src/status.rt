@@ -1,5 +1,6 @@
 // How a call of the program ends.
 use cc_base::{Kind, Span, Text};
+use cc_image::ImageFault;
 
 /// How a call of the program ends.
 #[derive(Debug, Drop)]
@@ -20,6 +21,8 @@ pub enum Status {
     TooLong,
     /// The rules of the language refuse the source, for this reason and at this place.
     Refused(Kind, Span),
+    /// The bytes of a file are no image, for this reason.
+    NotImage(ImageFault),
     /// The executed program threw an exception that nothing caught: its type and its message.
     Aborted(Text, Text),
     /// The executed program would have passed the limit of cells.
@@ -51,6 +54,7 @@ impl Status {
             Status::WriteFault => 243,
             Status::TooLong => 244,
             Status::Refused(_, _) => 245,
+            Status::NotImage(_) => 246,
             Status::Aborted(_, _) => 248,
             Status::HeapLimit => 249,
             Status::DepthLimit => 250,

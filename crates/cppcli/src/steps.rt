@@ -1,5 +1,5 @@
 // The steps of the commands.
-ghost use Rattle.std.specs.Prelude.{◌≡◌, ◌≤◌, ◌<◌, ◌^◌, [], List, ℕ, Some, Err, length, string_bytes, IfOk, IsTrue, MatchResult};
+ghost use Rattle.std.specs.Prelude.{◌≡◌, ◌≢◌, ◌≤◌, ◌<◌, ◌^◌, [], List, ℕ, Some, Err, length, string_bytes, IfOk, IsTrue, MatchResult};
 ghost use Rattle.std.specs.List.{All};
 ghost use Rattle.cc_base.specs.Outside.{GivesSame, GivesSameBut, GoesOn, Holds, Rose};
 ghost use Rattle.cc_core.specs.StraightSource.{Source};
@@ -7,7 +7,10 @@ ghost use Rattle.cc_straight.specs.Reading.{execution, checking, Reads, Refuses}
 ghost use Rattle.cc_straight.specs.Straight.{RunsAs};
 ghost use Rattle.cc_emit.specs.Program.{module_of, code_limit};
 ghost use Rattle.cc_image.specs.Images.{IsImage};
-ghost use Rattle.cppcli.specs.Answers.{FilesRun, IsLoadFault, IsExecuted, stopped, status_of, image_name, ForSource};
+ghost use Rattle.cc_image.specs.declared.fault.ImageFault.{ImageFault};
+ghost use Rattle.cc_module.specs.Storable.{IsStorable};
+ghost use Rattle.cc_listing.specs.Listing.{ListsModule};
+ghost use Rattle.cppcli.specs.Answers.{FilesRun, IsLoadFault, IsExecuted, stopped, status_of, image_name, ForSource, IsModuleOf, IsNoImage};
 ghost use Rattle.cppcli.specs.Stops.{IsStop, IsEnd};
 
 use crate::Status;
@@ -15,8 +18,10 @@ use crate::note::note;
 use crate::outcome::{Outcome, Stop};
 use cc_base::{Ending, Files, Kind, Limits, List, LoadFault, Span, StoreFault, Text};
 use cc_emit::emit;
-use cc_image::write_image;
+use cc_image::{ImageFault, read_image, write_image};
+use cc_listing::list;
 use cc_machine::Checked;
+use cc_module::Module;
 use cc_straight::CompileFault;
 use std::alloc::{AllocError, Global};
 
@@ -134,6 +139,41 @@ pub fn image_of(alloc: Global, code: &Checked) -> Result<Vec<u8>, AllocError>
 {
     let module = emit(alloc, code.body().code.as_slice())?;
     write_image(alloc, &module)
+}
+
+// What a fault of an image ends with.
+fn image_stop(alloc: Global, fault: ImageFault, file: &str, bytes: &[u8]) -> Stop
+    requires { length bytes.now < 2 ^ 32 }
+    ensures { IsStop result (λ outcome. (fault ≢ ImageFault.Memory) × (outcome ≡ stopped (Status.NotImage fault) file.now bytes.now)) }
+{
+    match fault {
+        ImageFault::Memory => Stop::OutOfMemory,
+        ImageFault::Short(_)
+        | ImageFault::BadField(_)
+        | ImageFault::Metadata(_)
+        | ImageFault::Code(_, _) => stop(alloc, Status::NotImage(fault), file, bytes),
+    }
+}
+
+/// Reads the bytes of a file as an image.
+pub fn read_module(alloc: Global, file: &str, bytes: &[u8]) -> Result<Module, Stop>
+    requires { length bytes.now < 2 ^ 32 }
+    ensures { MatchResult result
+        (λ m. IsModuleOf bytes.now m)
+        (λ stop. IsStop stop (λ outcome. (fault : ImageFault) × IsNoImage bytes.now fault × (outcome ≡ stopped (Status.NotImage fault) file.now bytes.now))) }
+{
+    match read_image(alloc, bytes) {
+        Ok(module) => Ok(module),
+        Err(fault) => Err(image_stop(alloc, fault, file, bytes)),
+    }
+}
+
+/// The listing of a module that was read.
+pub fn list_module(alloc: Global, module: &Module) -> Result<Vec<u8>, AllocError>
+    requires { IsStorable «module».now }
+    ensures { IfOk result (λ text. ListsModule «module».now text.items) }
+{
+    list(alloc, module)
 }
 
 /// The name of the image of a file.

@@ -54,7 +54,7 @@ fn blanks(alloc: Global, length: usize) -> Result<Vec<u8>, AllocError> {
 }
 
 // The words, a source, and the status, output and note that they come to.
-const SOURCES: [(&str, &str, u8, &str, &str); 5] = [
+const SOURCES: [(&str, &str, u8, &str, &str); 6] = [
     ("run x.cpp", OVERFLOW, 0, "-2147483648\n", ""),
     (
         "run --steps=5 x.cpp -- a",
@@ -64,6 +64,7 @@ const SOURCES: [(&str, &str, u8, &str, &str); 5] = [
         "limit: steps\n",
     ),
     ("check x.cpp", OVERFLOW, 0, "", ""),
+    ("dump x.cpp", "MZ", 246, "", "x.cpp: bad image 90\n"),
     (
         "run x.cpp",
         "int main() { return (2 - 5) * 3; }",
@@ -141,5 +142,13 @@ fn a_built_image_is_stored(rt: HostRuntime) -> Result<(), Fail> {
     assert!(rt; files.load("x.cpp.exe", 2000, &mut image).is_ok());
     assert_eq!(rt; image.len(), 1024);
     assert!(rt; image.starts_with(b"MZ"));
+    let listed = call(alloc, "dump x.cpp.exe", &mut files, 5000)?;
+    assert_eq!(rt; listed.status.exit(), 0);
+    assert!(rt;
+        listed
+            .output
+            .bytes()
+            .starts_with(b"class <Module>\n  method main ")
+    );
     Ok(())
 }
