@@ -1,0 +1,4 @@
+pub mod Choices
+pub mod Loops
+pub mod Rows
+pub mod Zeros

@@ -1,0 +1,4 @@
+pub mod Numbers
+pub mod Judgements
+pub mod Choosing
+pub mod Operations
