@@ -1,0 +1,4 @@
+mod Follows
+mod Grown
+mod Turns
+mod Whole

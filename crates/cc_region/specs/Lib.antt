@@ -1,0 +1,9 @@
+pub mod Bare
+pub mod Frames
+pub mod Laws
+pub mod Leave
+pub mod Lists
+pub mod Outcome
+pub mod Region
+pub mod RegionRun
+pub mod Typed

@@ -1,0 +1,9 @@
+pub mod Arguments
+pub mod Bodies
+pub mod Decoding
+pub mod Firsts
+pub mod Passing
+pub mod Starts
+pub mod Tables
+pub mod Turned
+pub mod Visiting

@@ -1,0 +1,5 @@
+pub mod Passes
+pub mod Places
+pub mod Regions
+pub mod Rules
+pub mod Transitions
