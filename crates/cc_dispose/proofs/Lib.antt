@@ -1,0 +1,6 @@
+mod Copies
+mod Fits
+mod Frames
+mod Functions
+mod Means
+mod Regions
