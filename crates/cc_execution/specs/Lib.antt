@@ -1,0 +1,11 @@
+pub mod Fundamental
+pub mod Library
+pub mod Operations
+pub mod Loaded
+pub mod Links
+pub mod State
+pub mod Numbers
+pub mod Handlers
+pub mod Step
+pub mod Run
+pub mod Laws
