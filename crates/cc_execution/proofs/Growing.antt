@@ -1,5 +1,5 @@
 -- What was printed and told only grows.
-use Rattle.std.proofs.Common.{◌≡◌, ◌+◌, ℕ, zero, suc, List, [], ◌∷◌, ◌++◌, length, refl, sym, ap, ◌∙◌, append_assoc, append-nil}
+use Rattle.std.proofs.Common.{◌+◌, ℕ, zero, suc, List, [], ◌∷◌, ◌++◌, length, sym, ap, ◌∙◌, append_assoc, append-nil}
 use Rattle.std.specs.Prelude.{Bool, true, false, Option, Some, None, nat_lt, slice_get, if◌then◌else◌}
 use Rattle.cc_base.specs.declared.identifiers.ClassId.{ClassId}
 use Rattle.cc_base.specs.declared.running.Ending.TheVariants as ending
@@ -17,23 +17,22 @@ use Rattle.cc_core.specs.declared.world.World.{World}
 use Rattle.cc_core.specs.Frames.{left}
 use Rattle.cc_core.specs.Laws.{Front}
 use Rattle.cc_core.specs.LibraryCalls.{printed_bytes}
-use Rattle.cc_core.specs.Numbers.{is_true, computed_alone}
-use Rattle.cc_core.specs.Run.{exception, with_object, with_output}
+use Rattle.cc_core.specs.Numbers.{computed_alone}
+use Rattle.cc_core.specs.Run.{exception, with_object}
 use Rattle.cc_core.specs.SourceRun.{message_of}
 use Rattle.cc_execution.specs.declared.operation.FundamentalType.{FundamentalType}
 use Rattle.cc_execution.specs.declared.operation.Operation.{Operation}
 use Rattle.cc_execution.specs.declared.operation.Operation.TheVariants as does
 use Rattle.cc_execution.specs.declared.executable.Executable.{Executable}
 use Rattle.cc_execution.specs.declared.executable.Method.{Method}
-use Rattle.cc_execution.specs.declared.executable.PlacedOperation.{PlacedOperation}
 use Rattle.cc_execution.specs.Fundamental.{stored, stored_each}
 use Rattle.cc_execution.specs.Library.{NULL_REFERENCE}
-use Rattle.cc_execution.specs.Links.{Link, Protected, Handling, between}
+use Rattle.cc_execution.specs.Links.{Link, Protected, Handling, left_for}
 use Rattle.cc_execution.specs.Numbers.{operated, conversion}
 use Rattle.cc_execution.specs.Operations.{loaded}
 use Rattle.cc_execution.specs.State.{Pending, Unwinding, Leaving, Caught, Frame, State, Next, Goes, Ends, Stuck, then_go}
-use Rattle.cc_execution.specs.Handlers.{aborts, uncaught, aborted, matches, catches, callers_catch, chain_at, go_on, outer, unwind_at, unwind, unwind_callers, raise, throw_among, throw, throw_made, with_world, leave_at, go_out, leave, end_handler, rethrow}
-use Rattle.cc_execution.specs.Step.{given, popping, popping_two, popping_each, goes_to, store, on_computed, branch_on, is_truth, throw_value, print, print_value, printed_type, call_library, enter, call, return_last, return_to, return_result, return, placed_in, act, step}
+use Rattle.cc_execution.specs.Handlers.{aborts, uncaught, aborted, matches, catches, callers_catch, chain_at, go_on, outer, unwind_at, unwind, unwind_callers, raise, throw, throw_made, with_world, leave_at, go_out, leave, end_handler, rethrow}
+use Rattle.cc_execution.specs.Step.{given, popping, popping_two, popping_each, goes_to, store, on_computed, throw_value, print, print_value, printed_type, call_library, enter, call, return_last, return_to, return_result, placed_in, act, step}
 use Rattle.cc_execution.specs.Run.{runs}
 use Rattle.cc_execution.specs.Laws.{Grows, GrowsTo}
 
@@ -149,7 +148,7 @@ module _ (w0 : World) where
         leave_at_grows c.kind (go_on method c.handler_first [] (Leaving to ∷ pending) callers w) (go_out to links method pending callers w) g (go_out_grows to links method pending callers w g)
 
     leave_grows : (to : ℕ) (s : State) → Grows w0 s.world → GrowsTo w0 (leave x to s)
-    leave_grows to s g = go_out_grows to (between (chain_at x s.now.method s.now.at) (chain_at x s.now.method to)) s.now.method s.now.pending s.callers s.world g
+    leave_grows to s g = go_out_grows to (left_for (chain_at x s.now.method s.now.at) to) s.now.method s.now.pending s.callers s.world g
 
     end_handler_grows : (pending : List Pending) (s : State) → Grows w0 s.world → GrowsTo w0 (end_handler x pending s)
     end_handler_grows [] s g = tt

@@ -1,6 +1,6 @@
 -- A module is loaded in one way.
-use Rattle.std.proofs.Common.{◌≡◌, ◌+◌, ◌-◌, ◌<◌, ℕ, length-append, length-drop, zero, suc, List, [], ◌∷◌, ◌++◌, length, refl, sym, ap, subst, ◌∙◌, arith}
-use Rattle.std.specs.Prelude.{Bool, true, false, ◌/◌, ◌%◌, nat_lt, Option, Some, None, ◌==◌, map, slice_get, if◌then◌else◌}
+use Rattle.std.proofs.Common.{◌≡◌, ◌+◌, ◌-◌, ◌<◌, ℕ, length-append, length-drop, suc, List, [], ◌∷◌, length, refl, sym, ap, subst, ◌∙◌, arith}
+use Rattle.std.specs.Prelude.{Bool, true, false, ◌/◌, ◌%◌, nat_lt, Option, Some, None, ◌==◌, map, if◌then◌else◌}
 use Rattle.cc_cil.specs.declared.body.Body.{Body}
 use Rattle.cc_cil.specs.declared.body.Clause.{Clause}
 use Rattle.cc_cil.specs.declared.instruction.Instruction.{Instruction}
@@ -13,7 +13,7 @@ use Rattle.cc_module.specs.declared.rows.MethodDefRow.{MethodDefRow}
 use Rattle.cc_module.specs.declared.rows.MemberRefRow.{MemberRefRow}
 use Rattle.cc_module.specs.declared.rows.StandAloneSigRow.{StandAloneSigRow}
 use Rattle.cc_module.specs.declared.module.Module.{Module}
-use Rattle.cc_module.specs.Methods.{NamesMethod, body_of}
+use Rattle.cc_module.specs.Methods.{body_of}
 use Rattle.cc_module.proofs.Heads.{one_signature}
 use Rattle.cc_execution.specs.declared.operation.FundamentalType.{FundamentalType}
 use Rattle.cc_execution.specs.declared.operation.Operation.{Operation}

@@ -2,12 +2,11 @@
 --   fundamental e      the type that an element of a signature stands for
 --   zero_of t          what a variable of the type holds at first
 --   stored t v         what a variable holds into which a value is stored: the low bits, widened by the type's sign
-use Rattle.std.specs.Prelude.{ℕ, Bool, true, false, List, [], ◌∷◌, map, Option, Some, None, if◌then◌else◌}
+use Rattle.std.specs.Prelude.{List, [], ◌∷◌, map, Option, Some, None, if◌then◌else◌}
 use Rattle.cc_core.specs.declared.world.Value.{Value, Int32, Int64}
 use Rattle.cc_core.specs.Types.{BareType}
 use Rattle.cc_core.specs.Types as type
 use Rattle.cc_core.specs.Numbers.{narrowed, is_wide}
-use Rattle.cc_core.specs.Numbers as core
 use Rattle.cc_module.specs.declared.element.Element.{Element}
 use Rattle.cc_module.specs.declared.element.Element.TheVariants as the
 use Rattle.cc_module.specs.declared.signature.TypeSignature.{TypeSignature}

@@ -1,6 +1,6 @@
 -- Exceptions and leaves (ECMA-335, I.12.4.2): a throw searches for a catch from the inside out, the handlers around the offset first, then those of the callers. Where there is none,
 -- the run is aborted at once. Else the finally and fault handlers that lie between run one after another, and then the catch is entered. A leave runs the finally handlers that it leaves.
-use Rattle.std.specs.Prelude.{ℕ, zero, suc, ◌==◌, ◌||◌, List, [], ◌∷◌, length, slice_get, Bool, true, false, Option, Some, None, nat_lt, if◌then◌else◌}
+use Rattle.std.specs.Prelude.{ℕ, zero, suc, ◌==◌, ◌||◌, List, [], ◌∷◌, length, slice_get, Bool, false, Option, Some, None, nat_lt, if◌then◌else◌}
 use Rattle.cc_base.specs.declared.identifiers.ClassId.{ClassId}
 use Rattle.cc_base.specs.declared.running.Ending.TheVariants as ending
 use Rattle.cc_cil.specs.declared.body.ClauseKind.{ClauseKind}
@@ -16,7 +16,7 @@ use Rattle.cc_core.specs.SourceRun.{message_of}
 use Rattle.cc_execution.specs.declared.executable.ClassRow.{ClassRow}
 use Rattle.cc_execution.specs.declared.executable.Executable.{Executable}
 use Rattle.cc_execution.specs.declared.executable.Method.{Method}
-use Rattle.cc_execution.specs.Links.{Link, Protected, Handling, chain, between}
+use Rattle.cc_execution.specs.Links.{Link, Protected, Handling, chain, left_for}
 use Rattle.cc_execution.specs.State.{Pending, Unwinding, Leaving, Caught, Frame, State, Next, Goes, Ends, Stuck}
 
 -- ---- classes
@@ -151,7 +151,7 @@ leave_at Catch cleans other = other
 leave_at Finally cleans other = cleans
 leave_at Fault cleans other = other
 
--- the finally handlers of the links, from the inside out, and then the target
+-- the finally handlers of the links, from the inside out, and then the target (I.12.4.2.8.2, III.3.46)
 abbrev pub go_out : ℕ → List Link → ℕ → List Pending → List Frame → World → Next
 go_out to [] method pending callers w = go_on method to [] pending callers w
 go_out to (Handling c ∷ links) method pending callers w = go_out to links method (outer pending) callers w
@@ -159,7 +159,7 @@ go_out to (Protected c ∷ links) method pending callers w =
     leave_at c.kind (go_on method c.handler_first [] (Leaving to ∷ pending) callers w) (go_out to links method pending callers w)
 
 abbrev pub leave : Executable → ℕ → State → Next
-leave x to s = go_out to (between (chain_at x s.now.method s.now.at) (chain_at x s.now.method to)) s.now.method s.now.pending s.callers s.world
+leave x to s = go_out to (left_for (chain_at x s.now.method s.now.at) to) s.now.method s.now.pending s.callers s.world
 
 -- ---- the ends of handlers
 

@@ -1,14 +1,14 @@
 -- The library's classes (assembly mscorlib, namespace System), by their numbers, and the members that the machine has (ECMA-335, IV).
 --   class_named space name     the number of the class with this name
 --   library_call name s        the member of Console with this name and signature
-use Rattle.std.specs.Prelude.{ℕ, zero, suc, ◌+◌, Bool, true, false, List, [], ◌∷◌, ◌++◌, map, codes, position, Option, Some, None, option_map, if◌then◌else◌}
+use Rattle.std.specs.Prelude.{ℕ, Bool, true, false, List, [], ◌∷◌, ◌++◌, map, codes, position, Option, Some, None, option_map, if◌then◌else◌}
 use Rattle.std.specs.Str.{bytes_eq}
 use Rattle.cc_base.specs.declared.identifiers.ClassId.{ClassId}
 use Rattle.cc_module.specs.declared.element.Element.{Element}
 use Rattle.cc_module.specs.declared.element.Element.TheVariants as the
 use Rattle.cc_module.specs.declared.signature.TypeSignature.{TypeSignature}
 use Rattle.cc_module.specs.declared.signature.Signature.{Signature}
-use Rattle.cc_module.specs.declared.signature.Signature.TheVariants.{Field, Method, Locals, Property, Instantiation, Plain}
+use Rattle.cc_module.specs.declared.signature.Signature.TheVariants.{Method}
 use Rattle.cc_core.specs.declared.library_call.LibraryCall.{LibraryCall}
 use Rattle.cc_core.specs.declared.library_call.LibraryCall.TheVariants.{Write, WriteLine, WriteEmptyLine}
 use Rattle.cc_core.specs.declared.library_call.Printed.{Printed}

@@ -1,7 +1,7 @@
 -- What stands around an offset of a method (ECMA-335, I.12.4.2.5 and II.19): the protected code and the handlers of its clauses, from the inside out.
 --   chain clauses at     the links around the offset
---   between from to      those of the first chain that are left on the way to the second
-use Rattle.std.specs.Prelude.{ℕ, ◌+◌, ◌-◌, List, [], ◌∷◌, ◌++◌, length, take, Bool, true, false, ◌&&◌, nat_le, nat_lt, if◌then◌else◌}
+--   left_for links to    those of the links that are left for an offset
+use Rattle.std.specs.Prelude.{ℕ, ◌+◌, List, [], ◌∷◌, ◌++◌, Bool, ◌&&◌, nat_le, nat_lt, if◌then◌else◌}
 use Rattle.cc_cil.specs.declared.body.Clause.{Clause}
 
 pub data Link : Type 0 where
@@ -26,5 +26,12 @@ abbrev pub chain : List Clause → ℕ → List Link
 chain [] at = []
 chain (c ∷ clauses) at = link c at ++ chain clauses at
 
-abbrev pub between : List Link → List Link → List Link
-between from to = take (length from - length to) from
+-- the offset lies in what the link stands for
+abbrev pub lies_in : Link → ℕ → Bool
+lies_in (Protected c) at = in_try c at
+lies_in (Handling c) at = in_handler c at
+
+-- from the inside out, up to the first that the offset lies in
+abbrev pub left_for : List Link → ℕ → List Link
+left_for [] to = []
+left_for (l ∷ links) to = if lies_in l to then [] else l ∷ left_for links to

@@ -1,6 +1,6 @@
 -- Which module stands behind what the machine executes (ECMA-335, II.22, II.23.2 and II.25.4): its signatures are read, its code is decoded, and its tokens are resolved.
 --   IsLoaded m x     the module is loaded as this
-use Rattle.std.specs.Prelude.{◌≡◌, ℕ, zero, suc, ◌+◌, ◌==◌, Bool, true, false, List, [], ◌∷◌, ◌++◌, map, length, drop, slice_get, Option, Some, None, if◌then◌else◌}
+use Rattle.std.specs.Prelude.{◌≡◌, ℕ, zero, suc, ◌+◌, ◌==◌, Bool, true, false, List, [], ◌∷◌, ◌++◌, map, length, slice_get, Option, Some, None, if◌then◌else◌}
 use Rattle.std.specs.List.{flat_map}
 use Rattle.std.specs.Char.Escape.{encode_utf16}
 use Rattle.std.specs.Str.{chars}
@@ -14,7 +14,6 @@ use Rattle.cc_module.specs.declared.element.TypeDefOrRef.{TypeDefOrRef}
 use Rattle.cc_module.specs.declared.element.TypeDefOrRef.TheVariants.{TypeDef, TypeRef, TypeSpec}
 use Rattle.cc_module.specs.declared.index.MemberRefParent.{MemberRefParent}
 use Rattle.cc_module.specs.declared.index.MemberRefParent.TheVariants as parent
-use Rattle.cc_module.specs.declared.signature.TypeSignature.{TypeSignature}
 use Rattle.cc_module.specs.declared.signature.Signature.{Signature}
 use Rattle.cc_module.specs.declared.signature.Signature.TheVariants as sig
 use Rattle.cc_module.specs.declared.rows.TypeRefRow.{TypeRefRow}

@@ -1,5 +1,5 @@
 -- What operators and conversions make of values on the evaluation stack (ECMA-335, III.1.5), by the definitions of the core of the language.
-use Rattle.std.specs.Prelude.{ℕ, Bool, true, false, not, Option, Some, None, nat_eq, if◌then◌else◌}
+use Rattle.std.specs.Prelude.{Bool, true, false, not, Option, Some, None, nat_eq, if◌then◌else◌}
 use Rattle.std.specs.Str.{bytes_eq}
 use Rattle.cc_core.specs.declared.state.Computed.{Computed}
 use Rattle.cc_core.specs.declared.types.Operator.{Operator}

@@ -1,6 +1,6 @@
 -- What the machine does at each instruction (ECMA-335, III.3 and III.4), with the tokens and the target that it names resolved.
 --   resolve names next i   the operation of an instruction behind which the next one begins, where the machine has it
-use Rattle.std.specs.Prelude.{ℕ, zero, suc, map, ◌+◌, ◌/◌, ◌%◌, ◌^◌, ◌==◌, ℤ, pos, negsuc, ◌+ℤ◌, Bool, true, false, List, [], ◌∷◌, length, slice_get, nat_lt, Option, Some, None, option_map, if◌then◌else◌}
+use Rattle.std.specs.Prelude.{ℕ, zero, suc, map, ◌+◌, ◌/◌, ◌%◌, ◌^◌, ◌==◌, ℤ, pos, negsuc, ◌+ℤ◌, Bool, true, false, List, [], ◌∷◌, length, slice_get, Option, Some, None, option_map, if◌then◌else◌}
 use Rattle.std.specs.Int.{w32, w64, cast_unsigned}
 use Rattle.cc_cil.specs.declared.instruction.Instruction.{Instruction}
 use Rattle.cc_cil.specs.declared.instruction.Instruction.TheVariants as the

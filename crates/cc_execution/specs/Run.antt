@@ -2,9 +2,8 @@
 --   start x limits input arguments         where it begins, or how it ends at once
 --   runs x frames n s                      what n steps lead to
 --   run_of x input arguments limits n      what is seen of it after n steps
-use Rattle.std.specs.Prelude.{ℕ, zero, suc, ◌-◌, List, [], ◌∷◌, Option, Some, None, nat_lt, slice_get, if◌then◌else◌}
+use Rattle.std.specs.Prelude.{ℕ, zero, suc, ◌-◌, List, [], ◌∷◌, nat_lt, slice_get, if◌then◌else◌}
 use Rattle.cc_base.specs.Cells.{arguments_cells, arguments_pass}
-use Rattle.cc_base.specs.declared.running.Ending.{Ending}
 use Rattle.cc_base.specs.declared.running.Ending.TheVariants as ending
 use Rattle.cc_base.specs.declared.running.Event.{Event}
 use Rattle.cc_base.specs.declared.running.Limits.{Limits}
@@ -14,7 +13,6 @@ use Rattle.cc_core.specs.SourceRun.{Finish, ended, going, wrong}
 use Rattle.cc_core.specs.SourceRun as source
 use Rattle.cc_execution.specs.declared.operation.FundamentalType.{FundamentalType}
 use Rattle.cc_execution.specs.declared.executable.Executable.{Executable}
-use Rattle.cc_execution.specs.declared.executable.Method.{Method}
 use Rattle.cc_execution.specs.Operations.{loaded}
 use Rattle.cc_execution.specs.State.{State, Next, Goes, Ends, Stuck, then_go}
 use Rattle.cc_execution.specs.Handlers.{go_on}

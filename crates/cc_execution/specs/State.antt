@@ -1,5 +1,5 @@
 -- The state of a run (ECMA-335, I.12.3.2). A frame has what control needs; the variables of all frames, the objects and what was printed are the world, which is that of the source meaning.
-use Rattle.std.specs.Prelude.{ℕ, List, Option, Some, None}
+use Rattle.std.specs.Prelude.{ℕ, List}
 use Rattle.cc_base.specs.declared.running.Ending.{Ending}
 use Rattle.cc_core.specs.declared.world.Value.{Value}
 use Rattle.cc_core.specs.declared.world.World.{World}

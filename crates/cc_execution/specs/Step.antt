@@ -1,9 +1,7 @@
 -- One step of a run: the operation that is next (ECMA-335, III.3 and III.4).
 --   step x frames s   what the next operation leads to, where so many frames may be open at a time
-use Rattle.std.specs.Prelude.{ℕ, zero, suc, ◌+◌, ◌==◌, List, [], ◌∷◌, ◌++◌, length, map, slice_get, Bool, true, false, Option, Some, None, nat_lt, nat_eq, if◌then◌else◌}
+use Rattle.std.specs.Prelude.{ℕ, ◌+◌, ◌==◌, List, [], ◌∷◌, ◌++◌, length, map, slice_get, Bool, true, false, Option, Some, None, nat_lt, if◌then◌else◌}
 use Rattle.std.specs.Int.{w32, cast_signed}
-use Rattle.cc_base.specs.declared.identifiers.ClassId.{ClassId}
-use Rattle.cc_base.specs.declared.identifiers.LocalId.{LocalId}
 use Rattle.cc_base.specs.declared.running.Ending.TheVariants as ending
 use Rattle.cc_core.specs.declared.library_call.LibraryCall.{LibraryCall}
 use Rattle.cc_core.specs.declared.library_call.LibraryCall.TheVariants.{Write, WriteLine, WriteEmptyLine}
@@ -28,7 +26,7 @@ use Rattle.cc_execution.specs.Fundamental.{stored, stored_each, zero_of}
 use Rattle.cc_execution.specs.Library.{NULL_REFERENCE}
 use Rattle.cc_execution.specs.Operations.{loaded}
 use Rattle.cc_execution.specs.Numbers.{operated, conversion}
-use Rattle.cc_execution.specs.State.{Frame, State, Next, Goes, Ends, Stuck}
+use Rattle.cc_execution.specs.State.{Frame, State, Next, Ends, Stuck}
 use Rattle.cc_execution.specs.Handlers.{go_on, throw, throw_made, leave, end_handler, rethrow}
 
 -- ---- parts of steps

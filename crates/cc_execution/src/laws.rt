@@ -15,3 +15,8 @@ pub fn output_grows()
 pub fn one_executable()
     ensures { spec.OneExecutable }
 {}
+
+/// The numbers of the library's classes that the definitions speak of are those of their names (ECMA-335, IV).
+pub fn library_classes()
+    ensures { spec.LibraryClasses }
+{}

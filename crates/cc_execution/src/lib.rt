@@ -6,5 +6,5 @@ mod laws;
 mod operation;
 
 pub use executable::{ClassRow, Executable, Method, PlacedOperation};
-pub use laws::{one_executable, output_grows, runs_in_pieces};
+pub use laws::{library_classes, one_executable, output_grows, runs_in_pieces};
 pub use operation::{FundamentalType, Operation};

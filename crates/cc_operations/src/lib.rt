@@ -7,8 +7,6 @@ mod meanings;
 mod numbers;
 mod operators;
 mod source;
-#[cfg(test)]
-mod tests;
 
 pub use calls::call;
 pub use judged::{ConsoleMember, Given, Judged, Meant, Refusal};

@@ -10,8 +10,6 @@ mod outers;
 mod room;
 mod statements;
 mod templates;
-#[cfg(test)]
-mod tests;
 mod types;
 
 pub use count::count_nodes;

@@ -15,8 +15,6 @@ mod ends;
 mod finder;
 mod resolving;
 mod terms;
-#[cfg(test)]
-mod tests;
 
 pub use ends::{Way, block_way};
 pub use finder::Finder;

@@ -1,8 +1,13 @@
 pub mod Arguments
 pub mod Bodies
+pub mod Coded
 pub mod Decoding
 pub mod Firsts
+pub mod Once
 pub mod Passing
+pub mod Placed
+pub mod Rows
+pub mod RuleTables
 pub mod Starts
 pub mod Tables
 pub mod Turned

@@ -1,5 +1,9 @@
+pub mod ClassRules
+pub mod Library
 pub mod Passes
 pub mod Places
 pub mod Regions
 pub mod Rules
 pub mod Transitions
+pub mod Types
+pub mod Verified

@@ -118,7 +118,8 @@ pub fn each_nests(before: &[Clause], clause: &Clause) -> bool
 
 // ---- passing from one place to another
 
-fn is_catch(kind: ClauseKind) -> bool
+/// Whether the clause is a catch.
+pub fn is_catch(kind: ClauseKind) -> bool
     ensures { result ≡ is_catch kind }
 {
     match kind {

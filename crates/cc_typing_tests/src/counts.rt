@@ -1,8 +1,8 @@
 // Units with how much their nodes count, or with the place of the first node that makes a count pass its limit.
 ghost use Rattle.std.specs.Prelude.{◌<◌, ◌+◌, ◌*◌};
 
-use crate::count_nodes;
 use cc_base::{Kind, List, Span};
+use cc_template::count_nodes;
 use cc_tree::{
     Accessor, AccessorWord, AggregateWord, Block, Class, ClassKey, ClassWord, Enumeration,
     Enumerator, Expression, Function, FundamentalType, Identifier, Member, Outer, Parameters,

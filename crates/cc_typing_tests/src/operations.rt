@@ -1,10 +1,10 @@
 // What operators, casts and calls make of operands of some types.
-use crate::{
+use cc_base::{Kind, List, LocalId, Span};
+use cc_core::{Classes, Expression};
+use cc_operations::{
     Given, Judged, Known, Meant, Source, assigned, binary, call, cast_to, conditional, constructed,
     core, named_cast, number_type, postfixed, prefixed,
 };
-use cc_base::{Kind, List, LocalId, Span};
-use cc_core::{Classes, Expression};
 use cc_tree::{
     AssignmentOperator, BinaryOperator, CastWord, FundamentalType, PostfixOperator, PrefixOperator,
     Radix, Suffix,

@@ -1,9 +1,9 @@
 // Bodies with the first rule that they break, and bodies that break none.
 ghost use Rattle.std.specs.Prelude.{◌<◌, ◌^◌, length};
 
-use crate::{Broken, Environment, Frame, MethodType, StackType, body_verdict};
 use cc_base::{ClassId, List};
 use cc_cil::{Body, Clause, ClauseKind};
+use cc_verify::{Broken, Environment, Frame, MethodType, StackType, body_verdict};
 use std::alloc::{AllocError, Global};
 use std::test::Fail;
 

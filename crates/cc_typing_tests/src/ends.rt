@@ -1,6 +1,6 @@
 // Which statements end, by their form.
-use crate::block_way;
 use cc_base::Span;
+use cc_terms::block_way;
 use cc_tree::{Block, Expression, ForStart, Label, Section, Statement};
 use sqlite_items::{Boxed, Items};
 use std::alloc::{AllocError, Global};
