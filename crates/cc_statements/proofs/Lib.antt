@@ -1,0 +1,4 @@
+pub mod Exits
+pub mod Forms
+pub mod Going
+pub mod Rows

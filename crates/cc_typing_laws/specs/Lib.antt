@@ -1,0 +1,5 @@
+pub mod Contents
+pub mod Finding
+pub mod Functions
+pub mod Programs
+pub mod Laws
