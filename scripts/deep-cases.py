@@ -3,22 +3,26 @@
 
 The unit has depth 1, a function 2, its block 3, a statement 4 and its expression 5. A form is an opening that is repeated, what stands in the middle
 and a closing that is repeated as often. `most` is the greatest count within depth 256; `at` is the place, in the opening that is one too many, of the
-token after which every source nests deeper. `middle_at` stands in its place where the token comes after all the openings."""
+token after which every source nests deeper. `middle_at` stands in its place where the token comes after all the openings. A source that isn't too deep
+may be refused for its types (`refusal`, a place and a kind): where it has a name that isn't declared, or an innermost part that no operator takes."""
 import json
 import os
 
 MAIN = 'int main() { '
 RETURN = MAIN + 'return '
 EXPRESSION_END = '; }'
+UNKNOWN = '63 UnknownMember'
 
 
-def form(name, before, opening, middle, closing, after, most, at=0, middle_at=None):
+def form(name, before, opening, middle, closing, after, most, at=0, middle_at=None, refusal=None, innermost=None):
     def text(count):
         return before + opening * count + middle + closing * count + after
     place = len(before) + len(opening) * most + at
     if middle_at is not None:
         place = len(before) + len(opening) * (most + 1) + middle_at
-    return name, text(most), text(most + 1), place
+    if innermost is not None:
+        refusal = len(before) + len(opening) * (most - 1), innermost
+    return name, text(most), refusal, text(most + 1), place
 
 
 def chains():
@@ -31,23 +35,27 @@ def chains():
 
 def suffixes():
     for suffix in ['++', '--', '.a', '->a', '()', '[0]']:
-        yield form(f'suffix {suffix}', MAIN + 'x', suffix + ' ', '', '', EXPRESSION_END, 251)
+        yield form(f'suffix {suffix}', MAIN + 'x', suffix + ' ', '', '', EXPRESSION_END, 251, refusal=(len(MAIN), UNKNOWN))
 
 
 def expressions():
     yield form('parentheses', RETURN, '(', '0', ')', EXPRESSION_END, 251)
-    for operator in ['!', '~', '-', '+', '++', '--', '%']:
+    for operator in ['!', '~', '-', '+']:
         yield form(f'unary {operator}', RETURN, operator + ' ', '0', '', EXPRESSION_END, 251)
+    for operator in ['++', '--']:
+        yield form(f'unary {operator}', RETURN, operator + ' ', '0', '', EXPRESSION_END, 251, innermost='53 NotAssignable')
+    yield form('unary %', RETURN, '% ', '0', '', EXPRESSION_END, 251, innermost='50 NoConversion')
     yield form('cast', RETURN, '(int)', '0', '', EXPRESSION_END, 251)
-    for word in ['safe_cast', 'static_cast', 'dynamic_cast']:
+    for word in ['safe_cast', 'static_cast']:
         yield form(word, RETURN, word + '<int>(', '0', ')', EXPRESSION_END, 251)
+    yield form('dynamic_cast', RETURN, 'dynamic_cast<int>(', '0', ')', EXPRESSION_END, 251, innermost='50 NoConversion')
     for operator in ['=', '+=', '-=', '*=', '/=', '%=', '^=', '&=', '|=', '<<=', '>>=']:
-        yield form(f'assignment {operator}', MAIN, f'x {operator} ', 'x', '', EXPRESSION_END, 251, at=2)
+        yield form(f'assignment {operator}', MAIN, f'x {operator} ', 'x', '', EXPRESSION_END, 251, at=2, refusal=(len(MAIN), UNKNOWN))
     yield form('condition in the last part', RETURN, '1 ? 1 : ', '0', '', EXPRESSION_END, 251, at=2)
     yield form('condition in the middle part', RETURN, '1 ? ', '1', ' : 1', EXPRESSION_END, 251, at=2)
-    yield form('index in an index', MAIN, 'x[', '0', ']', EXPRESSION_END, 251, at=1)
-    yield form('call in an argument', MAIN, 'f(', '', ')', EXPRESSION_END, 126)
-    yield form('conversion in an argument', MAIN, 'int(', '', ')', EXPRESSION_END, 126)
+    yield form('index in an index', MAIN, 'x[', '0', ']', EXPRESSION_END, 251, at=1, refusal=(len(MAIN), UNKNOWN))
+    yield form('call in an argument', MAIN, 'f(', '', ')', EXPRESSION_END, 126, refusal=(len(MAIN), UNKNOWN))
+    yield form('conversion in an argument', MAIN, 'int(', '', ')', EXPRESSION_END, 126, innermost='50 NoConversion')
     yield form('gcnew in an argument', MAIN, 'gcnew System::Object(', '', ')', EXPRESSION_END, 126)
     # array<int> takes a depth more than the braces, and shows it at its sign <
     yield form('gcnew in braces', MAIN, 'gcnew array<int>{', '', '}', EXPRESSION_END, 125, at=11)
@@ -82,10 +90,14 @@ def types():
     yield form('handles in type arguments', '', 'array<', 'int', '>^', ' f(); int main() { return 0; }', 126, middle_at=3 + 2 * 127 - 1)
 
 
+def refused(place, kind):
+    return {'exit': 245, 'err': f'x.cpp:1:{place + 1}: error {kind}\n'}
+
+
 def lines():
-    for name, fits, deep, place in [*expressions(), *statements(), *types()]:
-        yield {'group': f'{name}, depth 256', 'text': fits, 'exit': 0, 'err': ''}
-        yield {'group': f'{name}, depth 257', 'text': deep, 'exit': 245, 'err': f'x.cpp:1:{place + 1}: error 11 TooDeep\n'}
+    for name, fits, refusal, deep, place in [*expressions(), *statements(), *types()]:
+        yield {'group': f'{name}, depth 256', 'text': fits, **(refused(*refusal) if refusal else {'exit': 0, 'err': ''})}
+        yield {'group': f'{name}, depth 257', 'text': deep, **refused(place, '11 TooDeep')}
 
 
 def main():

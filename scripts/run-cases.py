@@ -1,9 +1,10 @@
 #!/usr/bin/env python3
 """Runs the proved program over the tables of cases: run-cases.py PROGRAM. Ends with 0 exactly where each answer is as the tables have it.
 
-A table NAME.jsonl has a source with the exit status and the line on notes of `check` a line; a folder has the words of each case (NAME.args), those
-of a call that goes before (NAME.first) if there is one, the file that they name as it is (NAME.cpp) or in hexadecimal digits (NAME.hex) if there is one, the
-output (NAME.out), the line on notes (NAME.err) and the exit status (NAME.exit). Where a case wants no refusal of the front end (kinds 1 to 15), the answer NotYet
+A line of a table has a source (`text`), the words of the call (`words`, else those of `check`), and the output (`out`, else none), the line on notes (`err`)
+and the exit status (`exit`) that are wanted. A folder has the words of each case (NAME.args), those of a call that goes before (NAME.first) if there is one,
+the file that they name as it is (NAME.cpp) or in hexadecimal digits (NAME.hex) if there is one, the output (NAME.out), the line on notes (NAME.err) and the
+exit status (NAME.exit). In the tables of the whole language, where a case wants no refusal of the lexer or the parser (kinds 1 to 15), the answer NotYet
 will do, until its forms are built."""
 import json
 import os
@@ -12,7 +13,8 @@ import subprocess
 import sys
 import tempfile
 
-CASES = os.path.join(os.path.dirname(os.path.abspath(__file__)), '..', 'cases')
+SCRIPTS = os.path.dirname(os.path.abspath(__file__))
+CASES = os.path.join(SCRIPTS, '..', 'cases')
 
 
 def answer(program, calls, content):
@@ -27,17 +29,26 @@ def answer(program, calls, content):
     return ran.returncode, ran.stdout.decode(), ran.stderr.decode()
 
 
-def agrees(wanted, got):
+def is_not_yet(wanted, got):
+    """Whether the answer is NotYet where no refusal of the lexer or the parser is wanted."""
     kind = re.search(r' error (\d+) ', wanted[2])
-    of_front_end = kind is not None and int(kind.group(1)) <= 15
-    return got == wanted or (not of_front_end and ' error 9 NotYet' in got[2])
+    return (kind is None or int(kind.group(1)) > 15) and ' error 9 NotYet' in got[2]
+
+
+def cases_of_lines(lines):
+    for line in lines:
+        case = json.loads(line)
+        yield case['group'], [case.get('words', ['check', 'x.cpp'])], case['text'].encode(), (case['exit'], case.get('out', ''), case['err'])
 
 
 def table_cases(name):
     with open(os.path.join(CASES, name), encoding='utf-8') as table:
-        for line in table:
-            case = json.loads(line)
-            yield case['group'], [['check', 'x.cpp']], case['text'].encode(), (case['exit'], '', case['err'])
+        yield from cases_of_lines(table)
+
+
+def printed_cases(script):
+    """The cases that a script prints as a table."""
+    yield from cases_of_lines(subprocess.run([sys.executable, os.path.join(SCRIPTS, script)], capture_output=True, check=True, encoding='utf-8').stdout.splitlines())
 
 
 def folder_cases(name):
@@ -56,24 +67,33 @@ def folder_cases(name):
         yield case, calls, content(case), (int(part(case, '.exit')), part(case, '.out').decode(), part(case, '.err').decode())
 
 
-def run(program, name, cases):
-    """Prints how many cases of a table agree, and those that don't; gives whether all do."""
+def first_difference(wanted, got):
+    """The number of the first line of output that differs, with both; for outputs of many lines."""
+    pairs = list(zip(wanted[1].splitlines() + ['(end)'], got[1].splitlines() + ['(end)']))
+    return next((f'line {number}: wanted {one!r}, got {other!r}; ' for number, (one, other) in enumerate(pairs, 1) if one != other), '')
+
+
+def run(program, name, cases, all_built):
+    """Prints how many cases of a table agree, and those that don't; gives whether all do. NotYet will do where not all forms of the table are built."""
     total, wrong = 0, 0
     for group, calls, content, wanted in cases:
         total += 1
         got = answer(program, calls, content)
-        if not agrees(wanted, got):
+        if got != wanted and (all_built or not is_not_yet(wanted, got)):
             wrong += 1
-            print(f'{name}: {group}: {(content or b"")[-60:]!r}: wanted {wanted}, got {got}')
+            ends = [(status, out[-60:], err) for status, out, err in [wanted, got]]
+            print(f'{name}: {group}: {(content or b"")[-60:]!r}: {first_difference(wanted, got)}wanted {ends[0]}, got {ends[1]}')
     print(f'{name}: {total - wrong} of {total} cases agree')
     return total > 0 and wrong == 0
 
 
 def main():
     program = os.path.abspath(sys.argv[1])
-    tables = [run(program, name, table_cases(name)) for name in ['syntax.jsonl', 'deep.jsonl']]
-    folders = [run(program, name, folder_cases(name)) for name in ['front', 'program']]
-    sys.exit(0 if all(tables + folders) else 1)
+    whole_language = {'syntax.jsonl': table_cases('syntax.jsonl'), 'deep.jsonl': table_cases('deep.jsonl'), 'front': folder_cases('front')}
+    built = {'program': folder_cases('program'), 'typing.jsonl': table_cases('typing.jsonl'), 'mean.jsonl': table_cases('mean.jsonl'), 'mean': folder_cases('mean'),
+             'operator-cases.py': printed_cases('operator-cases.py')}
+    agree = [run(program, name, cases, False) for name, cases in whole_language.items()] + [run(program, name, cases, True) for name, cases in built.items()]
+    sys.exit(0 if all(agree) else 1)
 
 
 main()

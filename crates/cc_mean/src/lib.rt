@@ -10,8 +10,6 @@ mod run;
 mod sections;
 mod spent;
 mod steps;
-#[cfg(test)]
-mod tests;
 mod updates;
 mod value;
 

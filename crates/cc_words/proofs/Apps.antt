@@ -1,13 +1,21 @@
 -- The commands that read the words are simple, and no rule of theirs is on another.
-use Rattle.std.proofs.Common.{◌≡◌, Bool, true, false, refl}
-use Rattle.std.specs.Prelude.{if◌then◌else◌}
+use Rattle.std.proofs.Common.{◌≡◌, true, refl}
 use Rattle.clap.specs.Words.{is_simple, is_simple_and_free}
-use Rattle.cc_words.specs.Options.{file_app, steps_app}
+use Rattle.cc_words.specs.Options.{with_option}
+use Rattle.cc_words.specs.Words.{option_named}
+use Rattle.cc_words.specs.declared.command.Command.{Command}
+use Rattle.cc_words.specs.declared.command.Command.TheVariants.{Run, Check, Build, Dump, Mean}
 
-pub app_is_simple : (has_steps : Bool) → is_simple (if has_steps then steps_app else file_app) ≡ true
-app_is_simple true = refl
-app_is_simple false = refl
+pub app_is_simple : (command : Command) → is_simple (with_option (option_named command)) ≡ true
+app_is_simple Run = refl
+app_is_simple Check = refl
+app_is_simple Build = refl
+app_is_simple Dump = refl
+app_is_simple Mean = refl
 
-pub app_is_free : (has_steps : Bool) → is_simple_and_free (if has_steps then steps_app else file_app) ≡ true
-app_is_free true = refl
-app_is_free false = refl
+pub app_is_free : (command : Command) → is_simple_and_free (with_option (option_named command)) ≡ true
+app_is_free Run = refl
+app_is_free Check = refl
+app_is_free Build = refl
+app_is_free Dump = refl
+app_is_free Mean = refl

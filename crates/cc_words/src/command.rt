@@ -11,6 +11,8 @@ pub enum Command {
     Build,
     /// Prints the listing of an image.
     Dump,
+    /// Compiles a file and executes the meaning of its source.
+    Mean,
 }
 
 /// A command and what its words say.
@@ -19,8 +21,8 @@ pub struct Request<'a> {
     pub command: Command,
     /// The name of its file.
     pub file: &'a str,
-    /// How many instructions a program may execute.
-    pub steps: u32,
+    /// How many instructions a program may execute; for the meaning of a source, how many turns each run of a loop may make.
+    pub bound: u32,
     /// The arguments of the program.
     pub arguments: &'a [String],
 }

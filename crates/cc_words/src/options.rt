@@ -1,18 +1,19 @@
 // The words behind a command, read by clap.
-ghost use Rattle.std.specs.Prelude.{◌≡◌, List, ℕ, true, false, Bool, IfOk, map, string_bytes, codes, option_map, if◌then◌else◌};
-ghost use Rattle.clap.specs.Words.{app_of, is_simple, is_simple_and_free};
-ghost use Rattle.cc_words.specs.Options.{file_app, steps_app};
-ghost use Rattle.cc_words.specs.Given.{IsGiven};
+ghost use Rattle.std.specs.Prelude.{◌≡◌, List, ℕ, true, Bool, IfOk, map, string_bytes, codes, option_map};
+ghost use Rattle.clap.specs.Walk.{rows_of};
+ghost use Rattle.clap.specs.Words.{app_of, is_simple, is_simple_and_free, found_of};
+ghost use Rattle.cc_words.specs.Options.{file_app, with_option, told};
+ghost use Rattle.cc_words.specs.Given.{Gives, IsGiven};
 
 use clap::error::ErrorKind;
-use clap::{Arg, Command};
+use clap::{Arg, ArgMatches, Command};
 use std::alloc::{AllocError, Global};
 
-/// The words for a file and for a number of steps.
+/// The words for a file and for the number of an option.
 #[derive(Clone, Copy, Debug)]
 pub struct Given<'a> {
     pub file: Option<&'a str>,
-    pub steps: Option<&'a str>,
+    pub number: Option<&'a str>,
 }
 
 // One file, without words for help and version.
@@ -27,29 +28,44 @@ fn file_command<'a>(alloc: Global) -> Result<Command<'a>, AllocError>
         .arg(file)
 }
 
-// One file, and the option `--steps` where it is wanted.
-fn command_with<'a>(alloc: Global, has_steps: bool) -> Result<Command<'a>, AllocError>
-    ensures { IfOk result (λ command. app_of command ≡ (if has_steps then steps_app else file_app)) }
+// One file, and an option of this name where one is wanted.
+fn command_with<'a>(alloc: Global, option: Option<&'a str>) -> Result<Command<'a>, AllocError>
+    ensures { IfOk result (λ command. app_of command ≡ with_option (option_map (λ name. name.now) option.entry)) }
 {
     let command = file_command(alloc)?;
-    if has_steps {
-        let steps = Arg::new(alloc, "steps").long("steps");
-        command.arg(steps)
-    } else {
-        Ok(command)
+    match option {
+        Some(name) => {
+            let option = Arg::new(alloc, name).long(name);
+            command.arg(option)
+        }
+        None => Ok(command),
+    }
+}
+
+// The value of the option, where there is one.
+fn told<'a>(matches: &ArgMatches<'a>, option: Option<&'a str>) -> Option<&'a str>
+    ensures { option_map (λ number. number.now) result ≡ told (option_map (λ name. name.now) option.entry) (rows_of (found_of matches.now)) }
+{
+    match option {
+        Some(name) => matches.get_str(name),
+        None => None,
     }
 }
 
 // What words give that are read as a command says.
-fn read_by<'a>(command: Command<'a>, words: &'a [String]) -> Result<Option<Given<'a>>, AllocError>
+fn read_by<'a>(
+    command: Command<'a>,
+    option: Option<&'a str>,
+    words: &'a [String],
+) -> Result<Option<Given<'a>>, AllocError>
     requires simple { is_simple (app_of command) ≡ true }
     requires free { is_simple_and_free (app_of command) ≡ true }
-    ensures { IfOk result (λ given. IsGiven (app_of command.entry) (map (λ word. string_bytes word) words.entry.now) given) }
+    ensures { IfOk result (λ given. Gives (app_of command.entry) (option_map (λ name. name.now) option.entry) (map (λ word. string_bytes word) words.entry.now) given) }
 {
     match command.try_get_matches_from(words) {
         Ok(matches) => Ok(Some(Given {
             file: matches.get_str("file"),
-            steps: matches.get_str("steps"),
+            number: told(&matches, option),
         })),
         Err(error) => {
             if error.kind() == ErrorKind::OutOfMemory {
@@ -60,14 +76,17 @@ fn read_by<'a>(command: Command<'a>, words: &'a [String]) -> Result<Option<Given
     }
 }
 
-/// What the words behind a command give, or nothing where they are no such words.
+/// What the words behind a command give, which has an option of this name where one is told, or nothing where they are
+/// no such words.
 pub fn read_options<'a>(
     alloc: Global,
-    has_steps: bool,
+    option: Option<&'a str>,
     words: &'a [String],
 ) -> Result<Option<Given<'a>>, AllocError>
-    ensures { IfOk result (λ given. IsGiven (if has_steps then steps_app else file_app) (map (λ word. string_bytes word) words.entry.now) given) }
+    requires simple { is_simple (with_option (option_map (λ name. name.now) option)) ≡ true }
+    requires free { is_simple_and_free (with_option (option_map (λ name. name.now) option)) ≡ true }
+    ensures { IfOk result (λ given. IsGiven (option_map (λ name. name.now) option.entry) (map (λ word. string_bytes word) words.entry.now) given) }
 {
-    let command = command_with(alloc, has_steps)?;
-    read_by(command, words)
+    let command = command_with(alloc, option)?;
+    read_by(command, option, words)
 }

@@ -21,14 +21,29 @@ fn command_named(word: &str) -> Option<Command>
         "check" => Some(Command::Check),
         "build" => Some(Command::Build),
         "dump" => Some(Command::Dump),
+        "mean" => Some(Command::Mean),
         _ => None,
+    }
+}
+
+// The option with a number that a command has.
+fn option_named(command: Command) -> Option<&'static str>
+    ensures { option_map (λ name. name.now) result ≡ spec.option_named command }
+{
+    match command {
+        Command::Run => Some("steps"),
+        Command::Mean => Some("turns"),
+        Command::Check | Command::Build | Command::Dump => None,
     }
 }
 
 fn executes(command: Command) -> bool
     ensures { result ≡ spec.executes command }
 {
-    matches!(command, Command::Run)
+    match command {
+        Command::Run | Command::Mean => true,
+        Command::Check | Command::Build | Command::Dump => false,
+    }
 }
 
 fn is_divider(word: &str) -> bool
@@ -118,29 +133,39 @@ fn count_of(word: &str) -> Option<u32>
     if is_count(word) { value_of(word) } else { None }
 }
 
-fn steps_given(word: Option<&str>) -> Option<u32>
-    ensures { result ≡ spec.steps_given (option_map (λ steps. steps.now) word.entry) }
+// The bound of a command whose words don't tell it: the turns must be told.
+fn bound_untold(command: Command) -> Option<u32>
+    ensures { result ≡ spec.bound_untold command }
+{
+    match command {
+        Command::Run | Command::Check | Command::Build | Command::Dump => Some(DEFAULT_STEPS),
+        Command::Mean => None,
+    }
+}
+
+fn bound_given(command: Command, word: Option<&str>) -> Option<u32>
+    ensures { result ≡ spec.bound_given command (option_map (λ number. number.now) word.entry) }
 {
     match word {
         Some(word) => count_of(word),
-        None => Some(DEFAULT_STEPS),
+        None => bound_untold(command),
     }
 }
 
 fn request<'a>(
     command: Command,
     file: Option<&'a str>,
-    steps: Option<u32>,
+    bound: Option<u32>,
     arguments: &'a [String],
 ) -> Option<Request<'a>>
-    ensures { option_map shown result ≡ spec.joined command (map (λ word. string_bytes word) arguments.entry.now) (option_map (λ file. file.now) file.entry) steps }
+    ensures { option_map shown result ≡ spec.joined command (map (λ word. string_bytes word) arguments.entry.now) (option_map (λ file. file.now) file.entry) bound }
 {
     let file = file?;
-    let steps = steps?;
+    let bound = bound?;
     Some(Request {
         command,
         file,
-        steps,
+        bound,
         arguments,
     })
 }
@@ -154,11 +179,11 @@ fn read_between<'a>(
 ) -> Result<Option<Request<'a>>, AllocError>
     ensures { IfOk result (λ request. option_map shown request ≡ spec.line_between command (map (λ word. string_bytes word) words.entry.now) (map (λ word. string_bytes word) arguments.entry.now)) }
 {
-    match read_options(alloc, executes(command), words)? {
+    match read_options(alloc, option_named(command), words)? {
         Some(given) => Ok(request(
             command,
             file_given(given.file),
-            steps_given(given.steps),
+            bound_given(command, given.number),
             arguments,
         )),
         None => Ok(None),
@@ -189,10 +214,11 @@ fn read_behind(
     read_between(alloc, command, before, behind)
 }
 
-/// The command that the words ask for, `None` exactly where they are no command. The first word names it. For `run` the
-/// words behind the first `--` are the program's arguments; no other command has `--`. The words between are one FILE,
-/// which doesn't begin with `-`, and for `run` at most once `--steps N` or `--steps=N`, where N is one to ten digits
-/// below 4,294,967,296. It takes no memory where there are no words or the first is no command.
+/// The command that the words ask for, `None` exactly where they are no command. The first word names it. For `run` and
+/// `mean` the words behind the first `--` are the program's arguments; no other command has `--`. The words between are
+/// one FILE, which doesn't begin with `-`, for `run` at most once `--steps N` or `--steps=N`, and for `mean` once
+/// `--turns N` or `--turns=N`, where N is one to ten digits below 4,294,967,296. It takes no memory where there are no
+/// words or the first is no command.
 pub fn read_words(alloc: Global, words: &[String]) -> Result<Option<Request<'_>>, AllocError>
     ensures exact { IfOk result (λ request. option_map shown request ≡ spec.command_line (map (λ word. string_bytes word) words.now)) }
     ensures memory { IfErr result (λ _. is_some (spec.first_command (map (λ word. string_bytes word) words.now)) ≡ true) }

@@ -3,7 +3,7 @@ use crate::{Command, read_words};
 use std::alloc::{AllocError, Global};
 use std::test::Fail;
 
-// The command on `x.cpp` that the words of a line ask for, with its steps and the number of its arguments.
+// The command on `x.cpp` that the words of a line ask for, with its bound and the number of its arguments.
 fn asked(alloc: Global, line: &str) -> Result<Option<(Command, u32, usize)>, AllocError> {
     let mut words = Vec::new(alloc);
     for word in line.split_whitespace() {
@@ -13,7 +13,7 @@ fn asked(alloc: Global, line: &str) -> Result<Option<(Command, u32, usize)>, All
         return Ok(None);
     };
     if request.file == "x.cpp" {
-        Ok(Some((request.command, request.steps, request.arguments.len())))
+        Ok(Some((request.command, request.bound, request.arguments.len())))
     } else {
         Ok(None)
     }
@@ -32,6 +32,15 @@ fn words_are_commands_or_none(rt: HostRuntime) -> Result<(), Fail> {
         ("check x.cpp", Some((Command::Check, 50_000_000, 0))),
         ("build x.cpp", Some((Command::Build, 50_000_000, 0))),
         ("dump x.cpp", Some((Command::Dump, 50_000_000, 0))),
+        ("mean x.cpp --turns 0", Some((Command::Mean, 0, 0))),
+        (
+            "mean --turns=100 x.cpp -- a b",
+            Some((Command::Mean, 100, 2)),
+        ),
+        ("mean x.cpp", None),
+        ("mean x.cpp --steps 5", None),
+        ("mean x.cpp --turns 5 --turns 5", None),
+        ("run x.cpp --turns 5", None),
         ("", None),
         ("run", None),
         ("run x.cpp x.cpp", None),

@@ -5,7 +5,7 @@ use Rattle.cc_base.specs.Outside.{StreamState, GivesSame}
 use Rattle.cc_base.proofs.Streams.{gains_nothing}
 use Rattle.cc_words.specs.Words.{CommandLine, command_line, first_command, command_named, line_behind}
 use Rattle.cc_words.specs.declared.command.Command.{Command}
-use Rattle.cc_words.specs.declared.command.Command.TheVariants.{Run, Check, Build, Dump}
+use Rattle.cc_words.specs.declared.command.Command.TheVariants.{Run, Check, Build, Dump, Mean}
 use Rattle.cppcli.specs.Answers.{FilesRun, SinksRun, KeepsFiles, IsOutcomeOf, IsDelivered, IsAnswer, stopped}
 use Rattle.cppcli.specs.declared.outcome.Outcome.{Outcome}
 use Rattle.cppcli.specs.declared.status.Status.{Status}
@@ -14,13 +14,14 @@ use Rattle.cppcli.specs.declared.status.Status.TheVariants.{Memory, Usage}
 -- files that give the same are kept, whatever the command
 pub keeps_same : (line : Option CommandLine) (run : FilesRun) (status : Status) → GivesSame run.before run.after → KeepsFiles line run status
 keeps_same None run status same = same
-keeps_same (Some line) run status same = by line.command line.file line.steps line.arguments
+keeps_same (Some line) run status same = by line.command line.file line.bound line.arguments
   where
-    by : (command : Command) (file : List ℕ) (steps : ℕ) (arguments : List (List ℕ)) → KeepsFiles (Some (record { command = command; file = file; steps = steps; arguments = arguments })) run status
-    by Run file steps arguments = same
-    by Check file steps arguments = same
-    by Dump file steps arguments = same
-    by Build file steps arguments = (λ name other. same name, λ _ _. same)
+    by : (command : Command) (file : List ℕ) (bound : ℕ) (arguments : List (List ℕ)) → KeepsFiles (Some (record { command = command; file = file; bound = bound; arguments = arguments })) run status
+    by Run file bound arguments = same
+    by Check file bound arguments = same
+    by Dump file bound arguments = same
+    by Mean file bound arguments = same
+    by Build file bound arguments = (λ name other. same name, λ _ _. same)
 
 -- what a command keeps, as what its words ask for
 pub kept_by_line : (words : List (List ℕ)) (run : FilesRun) (line : CommandLine) (status : Status) → Some line ≡ command_line words → KeepsFiles (Some line) run status → KeepsFiles (command_line words) run status

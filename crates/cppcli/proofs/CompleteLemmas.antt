@@ -2,16 +2,20 @@
 use Rattle.std.proofs.Common.{◌≡◌, ◌≢◌, inl, inr, ℕ, ◌+◌, ◌≤◌, ◌<◌, List, [], length, take, arith, ap, sym, refl, subst, ◌∙◌, length-take}
 use Rattle.std.specs.Prelude.{Option, Some, None}
 use Rattle.cc_emit.specs.Program.{image_limit}
+use Rattle.cc_core.specs.declared.tree.ProgramParts.{ProgramParts}
+use Rattle.cc_straight.specs.Reading.{execution}
 use Rattle.cc_straight.proofs.Readings.{refuses_not_reads}
+use Rattle.cc_front.specs.Reading.{Types}
+use Rattle.cc_front.proofs.Readings.{one_meaning, refused_has_none}
 use Rattle.cc_words.specs.Words.{CommandLine}
 use Rattle.cc_words.specs.declared.command.Command.{Command}
-use Rattle.cc_words.specs.declared.command.Command.TheVariants.{Run, Check, Build, Dump}
-use Rattle.cppcli.specs.Answers.{FilesRun, SinksRun, AfterCompile, AfterImage, IsLoadFault, IsDelivered, IsAnswer, IsListed, source_limit, stopped}
-use Rattle.cppcli.specs.Complete.{LoadsWell, BytesComeTo, BytesOf, ComesTo, DoesAll, ImageComesTo, IsResult, purpose_of}
+use Rattle.cc_words.specs.declared.command.Command.TheVariants.{Run, Check, Build, Dump, Mean}
+use Rattle.cppcli.specs.Answers.{FilesRun, SinksRun, AfterCompile, AfterImage, AfterTyping, IsLoadFault, IsDelivered, IsAnswer, IsListed, arguments_of, meaning_limits, meant, source_limit, stopped}
+use Rattle.cppcli.specs.Complete.{LoadsWell, BytesComeTo, BytesOf, ComesTo, DoesAll, ImageComesTo, IsMade, IsResult, TypedComesTo}
 use Rattle.cppcli.specs.declared.outcome.Outcome.{Outcome}
 use Rattle.cppcli.specs.declared.status.Status.{Status}
 use Rattle.cppcli.specs.declared.status.Status.TheVariants.{Memory, Absent, ReadFault, TooLong}
-use Rattle.cppcli.proofs.RowLemmas.{Due, compiled, listed, due_of}
+use Rattle.cppcli.proofs.RowLemmas.{Due, compiled, typed, listed, due_of, reads, as_source, as_program}
 
 -- a load that fails shows that nothing is there, or more than the limit
 abbrev Shows : List ℕ → ℕ → Option (List ℕ) → Outcome → Type 0
@@ -23,14 +27,32 @@ longer limit bytes front begins size =
     let same : length (take (length front) bytes) ≡ length front = ap length begins in
     omega (arith, size, length-take (length front) bytes, same)
 
-bytes_of : (command : Command) (line : CommandLine) (run : FilesRun) (bytes : List ℕ) (outcome : Outcome) → command ≢ Dump → BytesComeTo line run bytes outcome → BytesOf command line run bytes outcome
-bytes_of Run line run bytes outcome other comes = comes
-bytes_of Check line run bytes outcome other comes = comes
-bytes_of Build line run bytes outcome other comes = comes
-bytes_of Dump line run bytes outcome other comes = absurd (other refl)
+bytes_of : (command : Command) (line : CommandLine) (run : FilesRun) (bytes : List ℕ) (outcome : Outcome) → reads command ≡ as_source → BytesComeTo line run bytes outcome → BytesOf command line run bytes outcome
+bytes_of Run line run bytes outcome is comes = comes
+bytes_of Check line run bytes outcome is comes = absurd cc
+bytes_of Build line run bytes outcome is comes = comes
+bytes_of Dump line run bytes outcome is comes = absurd cc
+bytes_of Mean line run bytes outcome is comes = absurd cc
+
+typed_of : (command : Command) (line : CommandLine) (run : FilesRun) (bytes : List ℕ) (outcome : Outcome) → reads command ≡ as_program → TypedComesTo line bytes outcome → BytesOf command line run bytes outcome
+typed_of Run line run bytes outcome is comes = absurd cc
+typed_of Check line run bytes outcome is comes = comes
+typed_of Build line run bytes outcome is comes = absurd cc
+typed_of Dump line run bytes outcome is comes = absurd cc
+typed_of Mean line run bytes outcome is comes = comes
 
 image_of : (command : Command) (line : CommandLine) (run : FilesRun) (bytes : List ℕ) (outcome : Outcome) → command ≡ Dump → ImageComesTo line bytes outcome → BytesOf command line run bytes outcome
 image_of command line run bytes outcome is comes = subst (λ (c : Command). BytesOf c line run bytes outcome) (sym is) comes
+
+-- what is made of one typed program of a text is made of each
+made_same : (command : Command) (file : List ℕ) (bound : ℕ) (arguments : List (List ℕ)) (bytes : List ℕ) (one other : ProgramParts) (outcome : Outcome) → Types bytes one → Types bytes other
+    → IsMade (record { command = command; file = file; bound = bound; arguments = arguments }) one outcome → IsMade (record { command = command; file = file; bound = bound; arguments = arguments }) other outcome
+made_same Run file bound arguments bytes one other outcome types also is = is
+made_same Check file bound arguments bytes one other outcome types also is = is
+made_same Build file bound arguments bytes one other outcome types also is = is
+made_same Dump file bound arguments bytes one other outcome types also is = is
+made_same Mean file bound arguments bytes one other outcome types also is =
+    is ∙ ap meant (one_meaning bytes one other [] (arguments_of (record { command = Mean; file = file; bound = bound; arguments = arguments })) meaning_limits bound types also)
 
 module _ (line : CommandLine) (run : FilesRun) (well : LoadsWell run line.file) where
   fault_shows : (limit : ℕ) (there : Option (List ℕ)) (outcome : Outcome) (status : Status) → run.before.gives line.file ≡ Some there → IsLoadFault run run.before line.file limit status → outcome ≡ stopped status line.file [] → Shows line.file limit there outcome
@@ -48,6 +70,13 @@ module _ (line : CommandLine) (run : FilesRun) (well : LoadsWell run line.file) 
     refused = λ short. absurd (omega (arith, long, short));
   }
 
+  too_long_typed : (bytes : List ℕ) (outcome : Outcome) → source_limit < length bytes → outcome ≡ stopped TooLong line.file [] → TypedComesTo line bytes outcome
+  too_long_typed bytes outcome long due = record {
+    too_long = λ _. due;
+    accepted = λ short. absurd (omega (arith, long, short));
+    refused = λ short. absurd (omega (arith, long, short));
+  }
+
   too_long_image : (bytes : List ℕ) (outcome : Outcome) → image_limit < length bytes → outcome ≡ stopped TooLong line.file [] → ImageComesTo line bytes outcome
   too_long_image bytes outcome long due = record {
     too_long = λ _. due;
@@ -55,16 +84,28 @@ module _ (line : CommandLine) (run : FilesRun) (well : LoadsWell run line.file) 
     refused = λ short. absurd (omega (arith, long, short));
   }
 
-  compiled_comes : (bytes : List ℕ) (outcome : Outcome) → length bytes ≤ source_limit → AfterCompile (purpose_of line.command) line.file bytes outcome (λ source. IsResult line run source outcome) → BytesComeTo line run bytes outcome
+  compiled_comes : (bytes : List ℕ) (outcome : Outcome) → length bytes ≤ source_limit → AfterCompile line.file bytes outcome (λ source. IsResult line run source outcome) → BytesComeTo line run bytes outcome
   compiled_comes bytes outcome short (inl refused) = record {
     too_long = λ long. absurd (omega (arith, long, short));
-    accepted = λ _ source reads. absurd (refuses_not_reads (purpose_of line.command) bytes refused.0 refused.1 source refused.2 reads);
+    accepted = λ _ source reads. absurd (refuses_not_reads execution bytes refused.0 refused.1 source refused.2 reads);
     refused = λ _ none. refused;
   }
   compiled_comes bytes outcome short (inr accepted) = record {
     too_long = λ long. absurd (omega (arith, long, short));
     accepted = λ _ source reads. accepted.1 source reads;
     refused = λ _ none. absurd (none accepted.0.0 accepted.0.1);
+  }
+
+  typed_comes : (bytes : List ℕ) (outcome : Outcome) → length bytes ≤ source_limit → AfterTyping line.file bytes outcome (λ program. IsMade line program outcome) → TypedComesTo line bytes outcome
+  typed_comes bytes outcome short (inl refused) = record {
+    too_long = λ long. absurd (omega (arith, long, short));
+    accepted = λ _ program types. absurd (refused_has_none bytes refused.0 refused.1 program refused.2 types);
+    refused = λ _ none. refused;
+  }
+  typed_comes bytes outcome short (inr accepted) = record {
+    too_long = λ long. absurd (omega (arith, long, short));
+    accepted = λ _ program types. made_same line.command line.file line.bound line.arguments bytes accepted.0 program outcome accepted.1 types accepted.2;
+    refused = λ _ none. absurd (none accepted.0 accepted.1);
   }
 
   read_comes : (bytes : List ℕ) (outcome : Outcome) → length bytes ≤ image_limit → AfterImage line.file bytes outcome (λ m. IsListed m outcome) → ImageComesTo line bytes outcome
@@ -80,15 +121,24 @@ module _ (line : CommandLine) (run : FilesRun) (well : LoadsWell run line.file) 
   }
 
   comes_to : (there : Option (List ℕ)) (outcome : Outcome) → run.before.gives line.file ≡ Some there → Due line run outcome → ComesTo line run there outcome
-  comes_to None outcome gives (compiled other same (inl fault)) = fault_shows source_limit None outcome outcome.status gives fault.0 fault.1
-  comes_to (Some bytes) outcome gives (compiled other same (inl fault)) =
+  comes_to None outcome gives (compiled reads_it (inl fault)) = fault_shows source_limit None outcome outcome.status gives fault.0 fault.1
+  comes_to (Some bytes) outcome gives (compiled reads_it (inl fault)) =
       let shown = fault_shows source_limit (Some bytes) outcome outcome.status gives fault.0 fault.1 in
-      bytes_of line.command line run bytes outcome other (too_long_comes bytes outcome shown.0 shown.1)
-  comes_to None outcome gives (compiled other same (inr loaded)) = absurd (let holds = rw gives at loaded.1 in cc)
-  comes_to (Some bytes) outcome gives (compiled other same (inr loaded)) =
+      bytes_of line.command line run bytes outcome reads_it (too_long_comes bytes outcome shown.0 shown.1)
+  comes_to None outcome gives (compiled reads_it (inr loaded)) = absurd (let holds = rw gives at loaded.1 in cc)
+  comes_to (Some bytes) outcome gives (compiled reads_it (inr loaded)) =
       let holds = rw gives at loaded.1 in
       let is : loaded.0 ≡ bytes = cc in
-      bytes_of line.command line run bytes outcome other (compiled_comes bytes outcome (rw (← is) loaded.2) (rw is at loaded.3))
+      bytes_of line.command line run bytes outcome reads_it (compiled_comes bytes outcome (rw (← is) loaded.2) (rw is at loaded.3))
+  comes_to None outcome gives (typed reads_it (inl fault)) = fault_shows source_limit None outcome outcome.status gives fault.0 fault.1
+  comes_to (Some bytes) outcome gives (typed reads_it (inl fault)) =
+      let shown = fault_shows source_limit (Some bytes) outcome outcome.status gives fault.0 fault.1 in
+      typed_of line.command line run bytes outcome reads_it (too_long_typed bytes outcome shown.0 shown.1)
+  comes_to None outcome gives (typed reads_it (inr loaded)) = absurd (let holds = rw gives at loaded.1 in cc)
+  comes_to (Some bytes) outcome gives (typed reads_it (inr loaded)) =
+      let holds = rw gives at loaded.1 in
+      let is : loaded.0 ≡ bytes = cc in
+      typed_of line.command line run bytes outcome reads_it (typed_comes bytes outcome (rw (← is) loaded.2) (rw is at loaded.3))
   comes_to None outcome gives (listed dump (inl fault)) = fault_shows image_limit None outcome outcome.status gives fault.0 fault.1
   comes_to (Some bytes) outcome gives (listed dump (inl fault)) =
       let shown = fault_shows image_limit (Some bytes) outcome outcome.status gives fault.0 fault.1 in
@@ -108,5 +158,5 @@ memory_of outcome sinks answer memory (inr (inr cut)) = let nothing = rw memory 
 pub does_all : (words : List (List ℕ)) (run : FilesRun) (sinks : SinksRun) (answer : Status) → IsAnswer words run sinks answer → DoesAll words run sinks answer
 does_all words run sinks answer is line there words_are gives well = elim is.is_outcome [
   | inl memory ↦ inl (memory_of is.outcome sinks answer memory.0 is.is_delivered)
-  | inr due ↦ inr (is.outcome, comes_to line run well there is.outcome gives (due_of line.command line.file line.steps line.arguments run is.outcome (rw words_are at due)), is.is_delivered)
+  | inr due ↦ inr (is.outcome, comes_to line run well there is.outcome gives (due_of line.command line.file line.bound line.arguments run is.outcome (rw words_are at due)), is.is_delivered)
 ]

@@ -1,5 +1,5 @@
 -- What each answer tells: the rows that follow from the contract of the program.
-use Rattle.std.proofs.Common.{◌≡◌, ◌≢◌, ◌⊎◌, ◌≤◌, ◌<◌, inl, inr, ℕ, ℤ, List, refl, ap, ◌∙◌, sym, subst, arith}
+use Rattle.std.proofs.Common.{◌≡◌, ◌≢◌, ◌⊎◌, ◌≤◌, ◌<◌, inl, inr, ℕ, List, refl, ap, ◌∙◌, sym, subst, arith}
 use Rattle.std.specs.Prelude.{Bool, true, false, Option, Some, None, is_some, length}
 use Rattle.cc_base.specs.Outside.{FilesState, Gains, Holds}
 use Rattle.cc_base.specs.declared.kind.Kind.{Kind}
@@ -8,15 +8,21 @@ use Rattle.cc_base.specs.declared.running.Ending.{Ending}
 use Rattle.cc_base.specs.declared.running.Ending.TheVariants as ending
 use Rattle.cc_core.specs.StraightSource.{Source}
 use Rattle.cc_core.specs.StraightMeaning.{run_of}
+use Rattle.cc_core.specs.SourceRun.{Meaning}
+use Rattle.cc_core.specs.declared.tree.ProgramParts.{ProgramParts}
+use Rattle.cc_front.specs.Reading as front
+use Rattle.cc_front.specs.Reading.{Types}
+use Rattle.cc_straight.specs.Reading as straight
+use Rattle.cc_mean.specs.Ends.{end_of}
 use Rattle.cc_emit.specs.Program.{image_limit}
 use Rattle.cc_image.specs.declared.fault.ImageFault.{ImageFault}
 use Rattle.cc_straight.specs.Executing.{run_length}
 use Rattle.cc_words.specs.Words.{CommandLine, command_line, first_command}
 use Rattle.cc_words.specs.declared.command.Command.{Command}
-use Rattle.cc_words.specs.declared.command.Command.TheVariants.{Run, Check, Build, Dump}
-use Rattle.cppcli.specs.Answers.{FilesRun, SinksRun, AfterCompile, AfterImage, AfterLoad, IsListed, IsExecuted, IsLoadFault, IsOutcome, IsOutcomeOf, IsOutcomeFor, IsDelivered, IsWritten, IsAnswer, arguments_of, longest_run, source_limit, program_limits, status_of}
-use Rattle.cppcli.specs.Complete.{IsResult, purpose_of}
-use Rattle.cppcli.specs.Rows.{limit_of, AcceptedFrom, DoneFrom, ForCommand, NoImageFrom, NotImageRow, RefusedFrom, Returns, StoreFails, UsageRow, AbsentRow, ReadFaultRow, WriteFaultRow, TooLongRow, RefusedRow, EndedRow, StepLimitRow, MemoryRow, AnswerTable, DoneRow}
+use Rattle.cc_words.specs.declared.command.Command.TheVariants.{Run, Check, Build, Dump, Mean}
+use Rattle.cppcli.specs.Answers.{FilesRun, SinksRun, AfterCompile, AfterImage, AfterLoad, AfterTyping, IsBuilt, IsListed, IsExecuted, IsLoadFault, IsOutcome, IsOutcomeOf, IsOutcomeFor, IsDelivered, IsWritten, IsAnswer, arguments_of, image_name, longest_run, meaning_of, meant, meant_status, source_limit, program_limits, status_of}
+use Rattle.cppcli.specs.Complete.{IsMade, IsResult}
+use Rattle.cppcli.specs.Rows.{limit_of, AcceptedFrom, DoneFrom, ForCommand, GoingRow, ListedFrom, NoImageFrom, NotImageRow, RefusedFrom, RefusesFor, EndedFrom, Ends, TypedFrom, StoreFails, UsageRow, AbsentRow, ReadFaultRow, WriteFaultRow, TooLongRow, RefusedRow, EndedRow, StepLimitRow, MemoryRow, AnswerTable, DoneRow}
 use Rattle.cppcli.specs.declared.outcome.Outcome.{Outcome}
 use Rattle.cppcli.specs.declared.status.Status.{Status}
 use Rattle.cppcli.specs.declared.status.Status.TheVariants.{Done, Ended, Usage, Absent, ReadFault, WriteFault, TooLong, Refused, NotImage, Aborted, HeapLimit, DepthLimit, StepLimit, Going, Memory}
@@ -27,6 +33,7 @@ data Stage : Type 0 where
   at_compilation : Stage
   at_image : Stage
   at_execution : Stage
+  at_meaning : Stage
   at_store : Stage
   at_end : Stage
   elsewhere : Stage
@@ -45,7 +52,7 @@ stage_of StepLimit = at_execution
 stage_of WriteFault = at_store
 stage_of Done = at_end
 stage_of Usage = elsewhere
-stage_of Going = elsewhere
+stage_of Going = at_meaning
 stage_of Memory = elsewhere
 
 -- behind the compilation
@@ -54,6 +61,7 @@ is_late at_load = false
 is_late at_compilation = false
 is_late at_image = false
 is_late at_execution = true
+is_late at_meaning = true
 is_late at_store = true
 is_late at_end = true
 is_late elsewhere = false
@@ -76,28 +84,79 @@ stage_of_end (ending.Aborted type message) = refl
 stage_of_end ending.HeapLimit = refl
 stage_of_end ending.DepthLimit = refl
 
-returned_of : (end : Ending) (number : ℤ) → status_of (Some end) ≡ Ended number → end ≡ ending.Returned number
-returned_of (ending.Returned other) number same = cc
-returned_of (ending.Aborted type message) number same = cc
-returned_of ending.HeapLimit number same = cc
-returned_of ending.DepthLimit number same = cc
+-- the ending that a status tells
+abbrev ending_in : Status → Option Ending
+ending_in (Ended number) = Some (ending.Returned number)
+ending_in (Aborted type message) = Some (ending.Aborted type message)
+ending_in HeapLimit = Some ending.HeapLimit
+ending_in DepthLimit = Some ending.DepthLimit
+ending_in status = None
+
+told_ending : (end : Ending) → ending_in (status_of (Some end)) ≡ Some end
+told_ending (ending.Returned number) = refl
+told_ending (ending.Aborted type message) = refl
+told_ending ending.HeapLimit = refl
+told_ending ending.DepthLimit = refl
+
+same_ending : (end other : Ending) → status_of (Some end) ≡ status_of (Some other) → end ≡ other
+same_ending end other same = let both : Some end ≡ Some other = sym (told_ending end) ∙ ap ending_in same ∙ told_ending other in cc
+
+-- a status that tells no ending is that of none
+no_ending : (outcome : Outcome) (status : Status) (end : Ending) → outcome.status ≡ status_of (Some end) → outcome.status ≡ status → ending_in status ≡ None → ⊥
+no_ending outcome status end is other none = let both : Some end ≡ None = sym (told_ending end) ∙ sym (ap ending_in is) ∙ ap ending_in other ∙ none in cc
 
 stage_of_execution : (source : Source) (arguments : List (List ℕ)) (steps : ℕ) (outcome : Outcome) → IsExecuted source arguments steps outcome → stage_of outcome.status ≡ at_execution
 stage_of_execution source arguments steps outcome (inl (enough, is)) = ap (λ (o : Outcome). stage_of o.status) is ∙ stage_of_end (run_of source arguments program_limits).ending
 stage_of_execution source arguments steps outcome (inr (few, short, (printed, more, front, is))) = ap (λ (o : Outcome). stage_of o.status) is
 
 -- what a command makes of a source comes behind the compilation
-late : (command : Command) (file : List ℕ) (steps : ℕ) (arguments : List (List ℕ)) (run : FilesRun) (source : Source) (outcome : Outcome)
-    → IsResult (record { command = command; file = file; steps = steps; arguments = arguments }) run source outcome → is_late (stage_of outcome.status) ≡ true
-late Run file steps arguments run source outcome is = ap is_late (stage_of_execution source (arguments_of (record { command = Run; file = file; steps = steps; arguments = arguments })) steps outcome is)
-late Check file steps arguments run source outcome is = ap (λ (o : Outcome). is_late (stage_of o.status)) is
-late Build file steps arguments run source outcome (bytes, image, inl (rose, loud, is)) = ap (λ (o : Outcome). is_late (stage_of o.status)) is
-late Build file steps arguments run source outcome (bytes, image, inr (kept, is)) = ap (λ (o : Outcome). is_late (stage_of o.status)) is
-late Dump file steps arguments run source outcome is = absurd is
+late : (command : Command) (file : List ℕ) (bound : ℕ) (arguments : List (List ℕ)) (run : FilesRun) (source : Source) (outcome : Outcome)
+    → IsResult (record { command = command; file = file; bound = bound; arguments = arguments }) run source outcome → is_late (stage_of outcome.status) ≡ true
+late Run file bound arguments run source outcome is = ap is_late (stage_of_execution source (arguments_of (record { command = Run; file = file; bound = bound; arguments = arguments })) bound outcome is)
+late Check file bound arguments run source outcome is = absurd is
+late Build file bound arguments run source outcome (bytes, image, inl (rose, loud, is)) = ap (λ (o : Outcome). is_late (stage_of o.status)) is
+late Build file bound arguments run source outcome (bytes, image, inr (kept, is)) = ap (λ (o : Outcome). is_late (stage_of o.status)) is
+late Dump file bound arguments run source outcome is = absurd is
+late Mean file bound arguments run source outcome is = absurd is
 
--- the steps of the commands that read a source
+late_end : (end : Option Ending) → is_late (stage_of (meant_status end)) ≡ true
+late_end None = refl
+late_end (Some (ending.Returned number)) = refl
+late_end (Some (ending.Aborted type message)) = refl
+late_end (Some ending.HeapLimit) = refl
+late_end (Some ending.DepthLimit) = refl
+
+-- what a command makes of a typed program comes behind the compilation
+late_made : (command : Command) (file : List ℕ) (bound : ℕ) (arguments : List (List ℕ)) (program : ProgramParts) (outcome : Outcome)
+    → IsMade (record { command = command; file = file; bound = bound; arguments = arguments }) program outcome → is_late (stage_of outcome.status) ≡ true
+late_made Run file bound arguments program outcome is = absurd is
+late_made Check file bound arguments program outcome is = ap (λ (o : Outcome). is_late (stage_of o.status)) is
+late_made Build file bound arguments program outcome is = absurd is
+late_made Dump file bound arguments program outcome is = absurd is
+late_made Mean file bound arguments program outcome is =
+    let run = meaning_of program (arguments_of (record { command = Mean; file = file; bound = bound; arguments = arguments })) bound in
+    ap (λ (o : Outcome). is_late (stage_of o.status)) is ∙ late_end (end_of run.finish)
+
+-- what a command reads its file as
+pub data Reading : Type 0 where
+  as_source : Reading
+  as_program : Reading
+  as_image : Reading
+
+abbrev pub reads : Command → Reading
+reads Run = as_source
+reads Check = as_program
+reads Build = as_source
+reads Dump = as_image
+reads Mean = as_program
+
+-- the steps of the commands that compile a source
 abbrev pub Compiled : CommandLine → FilesRun → Outcome → Type 0
-Compiled line run outcome = AfterLoad run run.before line.file source_limit outcome (λ bytes. AfterCompile (purpose_of line.command) line.file bytes outcome (λ source. IsResult line run source outcome))
+Compiled line run outcome = AfterLoad run run.before line.file source_limit outcome (λ bytes. AfterCompile line.file bytes outcome (λ source. IsResult line run source outcome))
+
+-- those of the commands that type a source
+abbrev pub Typed : CommandLine → FilesRun → Outcome → Type 0
+Typed line run outcome = AfterLoad run run.before line.file source_limit outcome (λ bytes. AfterTyping line.file bytes outcome (λ program. IsMade line program outcome))
 
 -- those of the one that reads an image
 abbrev pub Listed : CommandLine → FilesRun → Outcome → Type 0
@@ -105,49 +164,98 @@ Listed line run outcome = AfterLoad run run.before line.file image_limit outcome
 
 -- the steps that a command has
 pub data Due (line : CommandLine) (run : FilesRun) (outcome : Outcome) : Type 0 where
-  compiled : line.command ≢ Dump → limit_of line.command ≡ source_limit → Compiled line run outcome → Due line run outcome
+  compiled : reads line.command ≡ as_source → Compiled line run outcome → Due line run outcome
+  typed : reads line.command ≡ as_program → Typed line run outcome → Due line run outcome
   listed : line.command ≡ Dump → Listed line run outcome → Due line run outcome
 
-pub due_of : (command : Command) (file : List ℕ) (steps : ℕ) (arguments : List (List ℕ)) (run : FilesRun) (outcome : Outcome)
-    → IsOutcomeOf (record { command = command; file = file; steps = steps; arguments = arguments }) run outcome → Due (record { command = command; file = file; steps = steps; arguments = arguments }) run outcome
-due_of Run file steps arguments run outcome is = compiled (λ other. cc) refl is
-due_of Check file steps arguments run outcome is = compiled (λ other. cc) refl is
-due_of Build file steps arguments run outcome is = compiled (λ other. cc) refl is
-due_of Dump file steps arguments run outcome is = listed refl is
+pub due_of : (command : Command) (file : List ℕ) (bound : ℕ) (arguments : List (List ℕ)) (run : FilesRun) (outcome : Outcome)
+    → IsOutcomeOf (record { command = command; file = file; bound = bound; arguments = arguments }) run outcome → Due (record { command = command; file = file; bound = bound; arguments = arguments }) run outcome
+due_of Run file bound arguments run outcome is = compiled refl is
+due_of Check file bound arguments run outcome is = typed refl is
+due_of Build file bound arguments run outcome is = compiled refl is
+due_of Dump file bound arguments run outcome is = listed refl is
+due_of Mean file bound arguments run outcome is = typed refl is
 
 -- where the stage of the outcome of an image is
 stage_of_image : (line : CommandLine) (bytes : List ℕ) (outcome : Outcome) → AfterImage line.file bytes outcome (λ m. IsListed m outcome) → (stage_of outcome.status ≡ at_image) ⊎ (stage_of outcome.status ≡ at_end)
 stage_of_image line bytes outcome (inl none) = inl (ap (λ (o : Outcome). stage_of o.status) none.2)
 stage_of_image line bytes outcome (inr found) = inr (ap (λ (o : Outcome). stage_of o.status) found.2.2)
 
+compiled_limit : (command : Command) → reads command ≡ as_source → limit_of command ≡ source_limit
+compiled_limit Run is = refl
+compiled_limit Check is = absurd cc
+compiled_limit Build is = refl
+compiled_limit Dump is = absurd cc
+compiled_limit Mean is = absurd cc
+
+typed_limit : (command : Command) → reads command ≡ as_program → limit_of command ≡ source_limit
+typed_limit Run is = absurd cc
+typed_limit Check is = refl
+typed_limit Build is = absurd cc
+typed_limit Dump is = absurd cc
+typed_limit Mean is = refl
+
 -- an outcome by its stage
 at_its_load : (line : CommandLine) (run : FilesRun) (outcome : Outcome) → stage_of outcome.status ≡ at_load → Due line run outcome → IsLoadFault run run.before line.file (limit_of line.command) outcome.status
-at_its_load line run outcome at (compiled other same (inl fault)) = subst (λ (n : ℕ). IsLoadFault run run.before line.file n outcome.status) (sym same) fault.0
-at_its_load line run outcome at (compiled other same (inr loaded)) = absurd (elim loaded.3 [
+at_its_load line run outcome at (compiled reads_it (inl fault)) = subst (λ (n : ℕ). IsLoadFault run run.before line.file n outcome.status) (sym (compiled_limit line.command reads_it)) fault.0
+at_its_load line run outcome at (compiled reads_it (inr loaded)) = absurd (elim loaded.3 [
   | inl refused ↦ let due : outcome.status ≡ Refused refused.0 refused.1 = ap status_of_outcome refused.3 in let stage : stage_of outcome.status ≡ at_compilation = ap stage_of due in cc
-  | inr accepted ↦ let behind = late line.command line.file line.steps line.arguments run accepted.0.0 outcome (accepted.1 accepted.0.0 accepted.0.1) in let before : is_late (stage_of outcome.status) ≡ false = ap is_late at in cc
+  | inr accepted ↦ let behind = late line.command line.file line.bound line.arguments run accepted.0.0 outcome (accepted.1 accepted.0.0 accepted.0.1) in let before : is_late (stage_of outcome.status) ≡ false = ap is_late at in cc
+])
+at_its_load line run outcome at (typed reads_it (inl fault)) = subst (λ (n : ℕ). IsLoadFault run run.before line.file n outcome.status) (sym (typed_limit line.command reads_it)) fault.0
+at_its_load line run outcome at (typed reads_it (inr loaded)) = absurd (elim loaded.3 [
+  | inl refused ↦ let due : outcome.status ≡ Refused refused.0 refused.1 = ap status_of_outcome refused.3 in let stage : stage_of outcome.status ≡ at_compilation = ap stage_of due in cc
+  | inr accepted ↦ let behind = late_made line.command line.file line.bound line.arguments accepted.0 outcome accepted.2 in let before : is_late (stage_of outcome.status) ≡ false = ap is_late at in cc
 ])
 at_its_load line run outcome at (listed is (inl fault)) = subst (λ (n : ℕ). IsLoadFault run run.before line.file n outcome.status) (sym (ap limit_of is)) fault.0
 at_its_load line run outcome at (listed is (inr read)) = absurd (elim (stage_of_image line read.0 outcome read.3) [ inl none ↦ cc | inr found ↦ cc ])
 
+compiled_refusal : (command : Command) (bytes : List ℕ) (kind : Kind) (span : Span) → reads command ≡ as_source → straight.Refuses straight.execution bytes kind span → RefusesFor command bytes kind span
+compiled_refusal Run bytes kind span is refused = refused
+compiled_refusal Check bytes kind span is refused = absurd cc
+compiled_refusal Build bytes kind span is refused = refused
+compiled_refusal Dump bytes kind span is refused = absurd cc
+compiled_refusal Mean bytes kind span is refused = absurd cc
+
+typed_refusal : (command : Command) (bytes : List ℕ) (kind : Kind) (span : Span) → reads command ≡ as_program → front.Refuses bytes kind span → RefusesFor command bytes kind span
+typed_refusal Run bytes kind span is refused = absurd cc
+typed_refusal Check bytes kind span is refused = refused
+typed_refusal Build bytes kind span is refused = absurd cc
+typed_refusal Dump bytes kind span is refused = absurd cc
+typed_refusal Mean bytes kind span is refused = refused
+
 at_its_compilation : (line : CommandLine) (run : FilesRun) (outcome : Outcome) (kind : Kind) (span : Span) → outcome.status ≡ Refused kind span → Due line run outcome → RefusedFrom run line kind span
-at_its_compilation line run outcome kind span is (compiled other same (inl fault)) = absurd (let at : stage_of outcome.status ≡ at_load = stage_of_load run run.before line.file source_limit outcome.status fault.0 in let stage : stage_of outcome.status ≡ at_compilation = ap stage_of is in cc)
-at_its_compilation line run outcome kind span is (compiled other same (inr loaded)) = elim loaded.3 [
+at_its_compilation line run outcome kind span is (compiled reads_it (inl fault)) = absurd (let at : stage_of outcome.status ≡ at_load = stage_of_load run run.before line.file source_limit outcome.status fault.0 in let stage : stage_of outcome.status ≡ at_compilation = ap stage_of is in cc)
+at_its_compilation line run outcome kind span is (compiled reads_it (inr loaded)) = elim loaded.3 [
   | inl refused ↦
       let own : outcome.status ≡ Refused refused.0 refused.1 = ap status_of_outcome refused.3 in
       let kinds : refused.0 ≡ kind = cc in
       let spans : refused.1 ≡ span = cc in
-      (loaded.0, loaded.1, loaded.2, rw (← kinds, ← spans) refused.2)
-  | inr accepted ↦ absurd (let behind = late line.command line.file line.steps line.arguments run accepted.0.0 outcome (accepted.1 accepted.0.0 accepted.0.1) in let before : is_late (stage_of outcome.status) ≡ false = ap (λ (s : Status). is_late (stage_of s)) is in cc)
+      (loaded.0, loaded.1, loaded.2, compiled_refusal line.command loaded.0 kind span reads_it (rw (← kinds, ← spans) refused.2))
+  | inr accepted ↦ absurd (let behind = late line.command line.file line.bound line.arguments run accepted.0.0 outcome (accepted.1 accepted.0.0 accepted.0.1) in let before : is_late (stage_of outcome.status) ≡ false = ap (λ (s : Status). is_late (stage_of s)) is in cc)
+]
+at_its_compilation line run outcome kind span is (typed reads_it (inl fault)) = absurd (let at : stage_of outcome.status ≡ at_load = stage_of_load run run.before line.file source_limit outcome.status fault.0 in let stage : stage_of outcome.status ≡ at_compilation = ap stage_of is in cc)
+at_its_compilation line run outcome kind span is (typed reads_it (inr loaded)) = elim loaded.3 [
+  | inl refused ↦
+      let own : outcome.status ≡ Refused refused.0 refused.1 = ap status_of_outcome refused.3 in
+      let kinds : refused.0 ≡ kind = cc in
+      let spans : refused.1 ≡ span = cc in
+      (loaded.0, loaded.1, loaded.2, typed_refusal line.command loaded.0 kind span reads_it (rw (← kinds, ← spans) refused.2))
+  | inr accepted ↦ absurd (let behind = late_made line.command line.file line.bound line.arguments accepted.0 outcome accepted.2 in let before : is_late (stage_of outcome.status) ≡ false = ap (λ (s : Status). is_late (stage_of s)) is in cc)
 ]
 at_its_compilation line run outcome kind span is (listed dump (inl fault)) = absurd (let at : stage_of outcome.status ≡ at_load = stage_of_load run run.before line.file image_limit outcome.status fault.0 in let stage : stage_of outcome.status ≡ at_compilation = ap stage_of is in cc)
 at_its_compilation line run outcome kind span is (listed dump (inr read)) = absurd (let stage : stage_of outcome.status ≡ at_compilation = ap stage_of is in elim (stage_of_image line read.0 outcome read.3) [ inl none ↦ cc | inr found ↦ cc ])
 
 at_its_image : (line : CommandLine) (run : FilesRun) (outcome : Outcome) (fault : ImageFault) → outcome.status ≡ NotImage fault → Due line run outcome → (line.command ≡ Dump) × NoImageFrom run line.file fault
-at_its_image line run outcome fault is (compiled other same (inl failed)) = absurd (let at : stage_of outcome.status ≡ at_load = stage_of_load run run.before line.file source_limit outcome.status failed.0 in let stage : stage_of outcome.status ≡ at_image = ap stage_of is in cc)
-at_its_image line run outcome fault is (compiled other same (inr loaded)) = absurd (elim loaded.3 [
+at_its_image line run outcome fault is (compiled reads_it (inl failed)) = absurd (let at : stage_of outcome.status ≡ at_load = stage_of_load run run.before line.file source_limit outcome.status failed.0 in let stage : stage_of outcome.status ≡ at_image = ap stage_of is in cc)
+at_its_image line run outcome fault is (compiled reads_it (inr loaded)) = absurd (elim loaded.3 [
   | inl refused ↦ let stage : stage_of outcome.status ≡ at_image = ap stage_of is in let at : stage_of outcome.status ≡ at_compilation = ap (λ (o : Outcome). stage_of o.status) refused.3 in cc
-  | inr accepted ↦ let behind = late line.command line.file line.steps line.arguments run accepted.0.0 outcome (accepted.1 accepted.0.0 accepted.0.1) in let before : is_late (stage_of outcome.status) ≡ false = ap (λ (s : Status). is_late (stage_of s)) is in cc
+  | inr accepted ↦ let behind = late line.command line.file line.bound line.arguments run accepted.0.0 outcome (accepted.1 accepted.0.0 accepted.0.1) in let before : is_late (stage_of outcome.status) ≡ false = ap (λ (s : Status). is_late (stage_of s)) is in cc
+])
+at_its_image line run outcome fault is (typed reads_it (inl failed)) = absurd (let at : stage_of outcome.status ≡ at_load = stage_of_load run run.before line.file source_limit outcome.status failed.0 in let stage : stage_of outcome.status ≡ at_image = ap stage_of is in cc)
+at_its_image line run outcome fault is (typed reads_it (inr loaded)) = absurd (elim loaded.3 [
+  | inl refused ↦ let stage : stage_of outcome.status ≡ at_image = ap stage_of is in let at : stage_of outcome.status ≡ at_compilation = ap (λ (o : Outcome). stage_of o.status) refused.3 in cc
+  | inr accepted ↦ let behind = late_made line.command line.file line.bound line.arguments accepted.0 outcome accepted.2 in let before : is_late (stage_of outcome.status) ≡ false = ap (λ (s : Status). is_late (stage_of s)) is in cc
 ])
 at_its_image line run outcome fault is (listed dump (inl failed)) = absurd (let at : stage_of outcome.status ≡ at_load = stage_of_load run run.before line.file image_limit outcome.status failed.0 in let stage : stage_of outcome.status ≡ at_image = ap stage_of is in cc)
 at_its_image line run outcome fault is (listed dump (inr read)) = elim read.3 [
@@ -158,29 +266,40 @@ at_its_image line run outcome fault is (listed dump (inr read)) = elim read.3 [
   | inr found ↦ absurd (let stage : stage_of outcome.status ≡ at_image = ap stage_of is in let at : stage_of outcome.status ≡ at_end = ap (λ (o : Outcome). stage_of o.status) found.2.2 in cc)
 ]
 
--- the source that a late outcome is of
-record Late (line : CommandLine) (run : FilesRun) (outcome : Outcome) : Type 0 where
-  source : Source
-  accepted : AcceptedFrom run line.file source
-  result : IsResult line run source outcome
+-- what a late outcome is of: a source that was compiled, or a program that was typed
+data Late (line : CommandLine) (run : FilesRun) (outcome : Outcome) : Type 0 where
+  of_source : (source : Source) → AcceptedFrom run line.file source → IsResult line run source outcome → Late line run outcome
+  of_program : (program : ProgramParts) → TypedFrom run line.file program → IsMade line program outcome → Late line run outcome
 
 late_from : (line : CommandLine) (run : FilesRun) (outcome : Outcome) (bytes : List ℕ) → is_late (stage_of outcome.status) ≡ true → Holds run.before line.file bytes → length bytes ≤ source_limit
-    → AfterCompile (purpose_of line.command) line.file bytes outcome (λ source. IsResult line run source outcome) → Late line run outcome
+    → AfterCompile line.file bytes outcome (λ source. IsResult line run source outcome) → Late line run outcome
 late_from line run outcome bytes behind held short (inl refused) = absurd (let at : is_late (stage_of outcome.status) ≡ false = ap (λ (o : Outcome). is_late (stage_of o.status)) refused.3 in cc)
-late_from line run outcome bytes behind held short (inr accepted) = record { source = accepted.0.0; accepted = (bytes, held, short, accepted.0.1); result = accepted.1 accepted.0.0 accepted.0.1 }
+late_from line run outcome bytes behind held short (inr accepted) = of_source accepted.0.0 (bytes, held, short, accepted.0.1) (accepted.1 accepted.0.0 accepted.0.1)
+
+late_typed : (line : CommandLine) (run : FilesRun) (outcome : Outcome) (bytes : List ℕ) → is_late (stage_of outcome.status) ≡ true → Holds run.before line.file bytes → length bytes ≤ source_limit
+    → AfterTyping line.file bytes outcome (λ program. IsMade line program outcome) → Late line run outcome
+late_typed line run outcome bytes behind held short (inl refused) = absurd (let at : is_late (stage_of outcome.status) ≡ false = ap (λ (o : Outcome). is_late (stage_of o.status)) refused.3 in cc)
+late_typed line run outcome bytes behind held short (inr accepted) = of_program accepted.0 (bytes, held, short, accepted.1) accepted.2
 
 at_its_result : (line : CommandLine) (run : FilesRun) (outcome : Outcome) → is_late (stage_of outcome.status) ≡ true → stage_of outcome.status ≢ at_end → Due line run outcome → Late line run outcome
-at_its_result line run outcome behind before_end (compiled other same (inl fault)) = absurd (let at : is_late (stage_of outcome.status) ≡ false = ap is_late (stage_of_load run run.before line.file source_limit outcome.status fault.0) in cc)
-at_its_result line run outcome behind before_end (compiled other same (inr loaded)) = late_from line run outcome loaded.0 behind loaded.1 loaded.2 loaded.3
+at_its_result line run outcome behind before_end (compiled reads_it (inl fault)) = absurd (let at : is_late (stage_of outcome.status) ≡ false = ap is_late (stage_of_load run run.before line.file source_limit outcome.status fault.0) in cc)
+at_its_result line run outcome behind before_end (compiled reads_it (inr loaded)) = late_from line run outcome loaded.0 behind loaded.1 loaded.2 loaded.3
+at_its_result line run outcome behind before_end (typed reads_it (inl fault)) = absurd (let at : is_late (stage_of outcome.status) ≡ false = ap is_late (stage_of_load run run.before line.file source_limit outcome.status fault.0) in cc)
+at_its_result line run outcome behind before_end (typed reads_it (inr loaded)) = late_typed line run outcome loaded.0 behind loaded.1 loaded.2 loaded.3
 at_its_result line run outcome behind before_end (listed dump (inl fault)) = absurd (let at : is_late (stage_of outcome.status) ≡ false = ap is_late (stage_of_load run run.before line.file image_limit outcome.status fault.0) in cc)
 at_its_result line run outcome behind before_end (listed dump (inr read)) = absurd (elim (stage_of_image line read.0 outcome read.3) [ inl none ↦ let at : is_late (stage_of outcome.status) ≡ false = ap is_late none in cc | inr found ↦ before_end found ])
 
 -- a command's outcome is neither about the words nor want of memory
 not_elsewhere : (line : CommandLine) (run : FilesRun) (outcome : Outcome) → Due line run outcome → stage_of outcome.status ≢ elsewhere
-not_elsewhere line run outcome (compiled other same (inl fault)) is = let at : stage_of outcome.status ≡ at_load = stage_of_load run run.before line.file source_limit outcome.status fault.0 in cc
-not_elsewhere line run outcome (compiled other same (inr loaded)) is = elim loaded.3 [
+not_elsewhere line run outcome (compiled reads_it (inl fault)) is = let at : stage_of outcome.status ≡ at_load = stage_of_load run run.before line.file source_limit outcome.status fault.0 in cc
+not_elsewhere line run outcome (compiled reads_it (inr loaded)) is = elim loaded.3 [
   | inl refused ↦ let at : stage_of outcome.status ≡ at_compilation = ap (λ (o : Outcome). stage_of o.status) refused.3 in cc
-  | inr accepted ↦ let behind = late line.command line.file line.steps line.arguments run accepted.0.0 outcome (accepted.1 accepted.0.0 accepted.0.1) in let before : is_late (stage_of outcome.status) ≡ false = ap is_late is in cc
+  | inr accepted ↦ let behind = late line.command line.file line.bound line.arguments run accepted.0.0 outcome (accepted.1 accepted.0.0 accepted.0.1) in let before : is_late (stage_of outcome.status) ≡ false = ap is_late is in cc
+]
+not_elsewhere line run outcome (typed reads_it (inl fault)) is = let at : stage_of outcome.status ≡ at_load = stage_of_load run run.before line.file source_limit outcome.status fault.0 in cc
+not_elsewhere line run outcome (typed reads_it (inr loaded)) is = elim loaded.3 [
+  | inl refused ↦ let at : stage_of outcome.status ≡ at_compilation = ap (λ (o : Outcome). stage_of o.status) refused.3 in cc
+  | inr accepted ↦ let behind = late_made line.command line.file line.bound line.arguments accepted.0 outcome accepted.2 in let before : is_late (stage_of outcome.status) ≡ false = ap is_late is in cc
 ]
 not_elsewhere line run outcome (listed dump (inl fault)) is = let at : stage_of outcome.status ≡ at_load = stage_of_load run run.before line.file image_limit outcome.status fault.0 in cc
 not_elsewhere line run outcome (listed dump (inr read)) is = elim (stage_of_image line read.0 outcome read.3) [ inl none ↦ cc | inr found ↦ cc ]
@@ -203,7 +322,7 @@ cause_of words run outcome staged (inr is) = go (command_line words) refl is
   where
     go : (order : Option CommandLine) → command_line words ≡ order → IsOutcomeFor order run outcome → Cause words run outcome
     go None same usage = absurd (staged (ap (λ (o : Outcome). stage_of o.status) usage))
-    go (Some line) same due = record { line = line; words_are = same; due = due_of line.command line.file line.steps line.arguments run outcome due }
+    go (Some line) same due = record { line = line; words_are = same; due = due_of line.command line.file line.bound line.arguments run outcome due }
 
 -- the cause of an answer that is no write fault, and its outcome's status
 record Told (words : List (List ℕ)) (run : FilesRun) (sinks : SinksRun) (status : Status) : Type 0 where
@@ -245,7 +364,7 @@ usage_row words run sinks answer is = record { only = only; always = λ none. al
   where
     go : (order : Option CommandLine) → command_line words ≡ order → IsOutcomeFor order run is.outcome → is.outcome.status ≡ Usage → command_line words ≡ None
     go None same due status = same
-    go (Some line) same due status = absurd (not_elsewhere line run is.outcome (due_of line.command line.file line.steps line.arguments run is.outcome due) (ap stage_of status))
+    go (Some line) same due status = absurd (not_elsewhere line run is.outcome (due_of line.command line.file line.bound line.arguments run is.outcome due) (ap stage_of status))
 
     only : answer ≡ Usage → command_line words ≡ None
     only usage =
@@ -270,16 +389,40 @@ memory_row words run sinks answer is memory =
   where
     go : (order : Option CommandLine) → IsOutcomeFor order run is.outcome → is.outcome.status ≡ Memory → ⊥
     go None usage status = let other : is.outcome.status ≡ Usage = ap status_of_outcome usage in cc
-    go (Some line) due status = not_elsewhere line run is.outcome (due_of line.command line.file line.steps line.arguments run is.outcome due) (ap stage_of status)
+    go (Some line) due status = not_elsewhere line run is.outcome (due_of line.command line.file line.bound line.arguments run is.outcome due) (ap stage_of status)
 
 -- a write fault that is due is a store's
-stored_result : (command : Command) (file : List ℕ) (steps : ℕ) (arguments : List (List ℕ)) (run : FilesRun) (source : Source) (outcome : Outcome) → outcome.status ≡ WriteFault
-    → IsResult (record { command = command; file = file; steps = steps; arguments = arguments }) run source outcome → StoreFails run (record { command = command; file = file; steps = steps; arguments = arguments })
-stored_result Run file steps arguments run source outcome status is = absurd (let at = stage_of_execution source (arguments_of (record { command = Run; file = file; steps = steps; arguments = arguments })) steps outcome is in let other : stage_of outcome.status ≡ at_store = ap stage_of status in cc)
-stored_result Check file steps arguments run source outcome status is = absurd (let other : outcome.status ≡ Done = ap status_of_outcome is in cc)
-stored_result Build file steps arguments run source outcome status (bytes, image, inl (rose, loud, is)) = (refl, rose, loud)
-stored_result Build file steps arguments run source outcome status (bytes, image, inr (kept, is)) = absurd (let other : outcome.status ≡ Done = ap status_of_outcome is in cc)
-stored_result Dump file steps arguments run source outcome status is = absurd is
+stored_result : (command : Command) (file : List ℕ) (bound : ℕ) (arguments : List (List ℕ)) (run : FilesRun) (source : Source) (outcome : Outcome) → outcome.status ≡ WriteFault
+    → IsResult (record { command = command; file = file; bound = bound; arguments = arguments }) run source outcome → StoreFails run (record { command = command; file = file; bound = bound; arguments = arguments })
+stored_result Run file bound arguments run source outcome status is = absurd (let at = stage_of_execution source (arguments_of (record { command = Run; file = file; bound = bound; arguments = arguments })) bound outcome is in let other : stage_of outcome.status ≡ at_store = ap stage_of status in cc)
+stored_result Check file bound arguments run source outcome status is = absurd is
+stored_result Build file bound arguments run source outcome status (bytes, image, inl (rose, loud, is)) = (refl, rose, loud)
+stored_result Build file bound arguments run source outcome status (bytes, image, inr (kept, is)) = absurd (let other : outcome.status ≡ Done = ap status_of_outcome is in cc)
+stored_result Dump file bound arguments run source outcome status is = absurd is
+stored_result Mean file bound arguments run source outcome status is = absurd is
+
+-- what is made of a typed program
+abbrev Made : Command → List ℕ → ℕ → List (List ℕ) → ProgramParts → Outcome → Type 0
+Made command file bound arguments program outcome = IsMade (record { command = command; file = file; bound = bound; arguments = arguments }) program outcome
+
+not_stored : (end : Option Ending) → meant_status end ≡ WriteFault → ⊥
+not_stored None same = cc
+not_stored (Some (ending.Returned number)) same = cc
+not_stored (Some (ending.Aborted type message)) same = cc
+not_stored (Some ending.HeapLimit) same = cc
+not_stored (Some ending.DepthLimit) same = cc
+
+stored_made : (command : Command) (file : List ℕ) (bound : ℕ) (arguments : List (List ℕ)) (program : ProgramParts) (outcome : Outcome) → outcome.status ≡ WriteFault → Made command file bound arguments program outcome → ⊥
+stored_made Run file bound arguments program outcome status is = is
+stored_made Check file bound arguments program outcome status is = let other : outcome.status ≡ Done = ap status_of_outcome is in cc
+stored_made Build file bound arguments program outcome status is = is
+stored_made Dump file bound arguments program outcome status is = is
+stored_made Mean file bound arguments program outcome status is =
+    not_stored (end_of (meaning_of program (arguments_of (record { command = Mean; file = file; bound = bound; arguments = arguments })) bound).finish) (sym (ap status_of_outcome is) ∙ status)
+
+stored_late : (line : CommandLine) (run : FilesRun) (outcome : Outcome) → outcome.status ≡ WriteFault → Late line run outcome → StoreFails run line
+stored_late line run outcome status (of_source source accepted is) = stored_result line.command line.file line.bound line.arguments run source outcome status is
+stored_late line run outcome status (of_program program types is) = absurd (stored_made line.command line.file line.bound line.arguments program outcome status is)
 
 write_fault_row : (words : List (List ℕ)) (run : FilesRun) (sinks : SinksRun) (answer : Status) → IsAnswer words run sinks answer → WriteFaultRow words run sinks answer
 write_fault_row words run sinks answer is fault = elim is.is_delivered [
@@ -287,7 +430,7 @@ write_fault_row words run sinks answer is fault = elim is.is_delivered [
       let status : is.outcome.status ≡ WriteFault = sym written.as_due ∙ fault in
       let cause = cause_of words run is.outcome (λ at. let other : stage_of is.outcome.status ≡ at_store = ap stage_of status in cc) is.is_outcome in
       let late_is = at_its_result cause.line run is.outcome (ap (λ (s : Status). is_late (stage_of s)) status) (λ end. let other : stage_of is.outcome.status ≡ at_store = ap stage_of status in cc) cause.due in
-      inr (cause.line, cause.words_are, stored_result cause.line.command cause.line.file cause.line.steps cause.line.arguments run late_is.source is.outcome status late_is.result)
+      inr (cause.line, cause.words_are, stored_late cause.line run is.outcome status late_is)
   | inr cut ↦ elim cut [ inl output ↦ inl (inl output.cause) | inr note ↦ inl (inr note.cause) ]
 ]
 
@@ -296,65 +439,177 @@ refused_row words run sinks answer is kind span same =
     let told = told_of words run sinks answer (Refused kind span) same (λ other. cc) (λ other. cc) is in
     (told.cause.line, told.cause.words_are, at_its_compilation told.cause.line run told.outcome kind span told.is told.cause.due)
 
--- what returned a number is an execution
-ended_result : (command : Command) (file : List ℕ) (steps : ℕ) (arguments : List (List ℕ)) (run : FilesRun) (source : Source) (outcome : Outcome) (number : ℤ) → outcome.status ≡ Ended number
-    → IsResult (record { command = command; file = file; steps = steps; arguments = arguments }) run source outcome
-    → (command ≡ Run) × Returns (record { command = command; file = file; steps = steps; arguments = arguments }) source number outcome.output
-ended_result Run file steps arguments run source outcome number status (inl (enough, is)) =
-    let ran = run_of source (arguments_of (record { command = Run; file = file; steps = steps; arguments = arguments })) program_limits in
-    (refl, (enough, returned_of ran.ending number (sym (ap status_of_outcome is) ∙ status), ap output_of_outcome is))
-ended_result Run file steps arguments run source outcome number status (inr (few, short, (printed, more, front, is))) = absurd (let other : outcome.status ≡ StepLimit = ap status_of_outcome is in cc)
-ended_result Check file steps arguments run source outcome number status is = absurd (let other : outcome.status ≡ Done = ap status_of_outcome is in cc)
-ended_result Build file steps arguments run source outcome number status (bytes, image, inl (rose, loud, is)) = absurd (let other : outcome.status ≡ WriteFault = ap status_of_outcome is in cc)
-ended_result Build file steps arguments run source outcome number status (bytes, image, inr (kept, is)) = absurd (let other : outcome.status ≡ Done = ap status_of_outcome is in cc)
-ended_result Dump file steps arguments run source outcome number status is = absurd is
+-- what has ended is an execution
+ended_result : (command : Command) (file : List ℕ) (bound : ℕ) (arguments : List (List ℕ)) (run : FilesRun) (source : Source) (outcome : Outcome) (end : Ending) → outcome.status ≡ status_of (Some end) → AcceptedFrom run file source
+    → IsResult (record { command = command; file = file; bound = bound; arguments = arguments }) run source outcome
+    → EndedFrom command (record { command = command; file = file; bound = bound; arguments = arguments }) run end outcome.output
+ended_result Run file bound arguments run source outcome end status accepted (inl (enough, is)) =
+    let ran = run_of source (arguments_of (record { command = Run; file = file; bound = bound; arguments = arguments })) program_limits in
+    (source, accepted, (enough, same_ending ran.ending end (sym (ap status_of_outcome is) ∙ status), ap output_of_outcome is))
+ended_result Run file bound arguments run source outcome end status accepted (inr (few, short, (printed, more, front, is))) = absurd (no_ending outcome StepLimit end status (ap status_of_outcome is) refl)
+ended_result Check file bound arguments run source outcome end status accepted is = absurd is
+ended_result Build file bound arguments run source outcome end status accepted (bytes, image, inl (rose, loud, is)) = absurd (no_ending outcome WriteFault end status (ap status_of_outcome is) refl)
+ended_result Build file bound arguments run source outcome end status accepted (bytes, image, inr (kept, is)) = absurd (no_ending outcome Done end status (ap status_of_outcome is) refl)
+ended_result Dump file bound arguments run source outcome end status accepted is = absurd is
+ended_result Mean file bound arguments run source outcome end status accepted is = absurd is
+
+meant_ending : (meant_end : Option Ending) (end : Ending) → meant_status meant_end ≡ status_of (Some end) → meant_end ≡ Some end
+meant_ending None end same = absurd (let both : None ≡ Some end = ap ending_in same ∙ told_ending end in cc)
+meant_ending (Some other) end same = ap Some (same_ending other end same)
+
+ended_made : (command : Command) (file : List ℕ) (bound : ℕ) (arguments : List (List ℕ)) (run : FilesRun) (program : ProgramParts) (outcome : Outcome) (end : Ending) → outcome.status ≡ status_of (Some end) → TypedFrom run file program
+    → Made command file bound arguments program outcome → EndedFrom command (record { command = command; file = file; bound = bound; arguments = arguments }) run end outcome.output
+ended_made Run file bound arguments run program outcome end status types is = absurd is
+ended_made Check file bound arguments run program outcome end status types is = absurd (no_ending outcome Done end status (ap status_of_outcome is) refl)
+ended_made Build file bound arguments run program outcome end status types is = absurd is
+ended_made Dump file bound arguments run program outcome end status types is = absurd is
+ended_made Mean file bound arguments run program outcome end status types is =
+    let run_is = meaning_of program (arguments_of (record { command = Mean; file = file; bound = bound; arguments = arguments })) bound in
+    (program, types, meant_ending (end_of run_is.finish) end (sym (ap status_of_outcome is) ∙ status), ap output_of_outcome is)
+
+ended_late : (line : CommandLine) (run : FilesRun) (outcome : Outcome) (end : Ending) → outcome.status ≡ status_of (Some end) → Late line run outcome → EndedFrom line.command line run end outcome.output
+ended_late line run outcome end status (of_source source accepted is) = ended_result line.command line.file line.bound line.arguments run source outcome end status accepted is
+ended_late line run outcome end status (of_program program types is) = ended_made line.command line.file line.bound line.arguments run program outcome end status types is
 
 ended_row : (words : List (List ℕ)) (run : FilesRun) (sinks : SinksRun) (answer : Status) → IsAnswer words run sinks answer → EndedRow words run sinks answer
-ended_row words run sinks answer is number same =
-    let told = told_of words run sinks answer (Ended number) same (λ other. cc) (λ other. cc) is in
-    let late_is = late_of words run sinks (Ended number) refl (λ end. cc) told in
+ended_row words run sinks answer is end same =
+    let status = status_of (Some end) in
+    let at = stage_of_end end in
+    let told = told_of words run sinks answer status same (λ other. let stage : stage_of status ≡ at_store = ap stage_of other in cc) (λ other. cc) is in
+    let late_is = late_of words run sinks status (ap is_late at) (λ other. cc) told in
     let line = told.cause.line in
-    let result = ended_result line.command line.file line.steps line.arguments run late_is.source told.outcome number told.is late_is.result in
-    (line, told.cause.words_are, (result.0, late_is.source, told.outcome.output, late_is.accepted, result.1, told.written.output))
+    (line, told.cause.words_are, (told.outcome.output, ended_late line run told.outcome end told.is late_is, told.written.output))
 
 -- what had not ended is an execution
-limited_result : (command : Command) (file : List ℕ) (steps : ℕ) (arguments : List (List ℕ)) (run : FilesRun) (source : Source) (outcome : Outcome) → outcome.status ≡ StepLimit
-    → IsResult (record { command = command; file = file; steps = steps; arguments = arguments }) run source outcome
-    → (command ≡ Run) × (steps < run_length source (arguments_of (record { command = command; file = file; steps = steps; arguments = arguments })) program_limits) × (steps < longest_run)
-limited_result Run file steps arguments run source outcome status (inl (enough, is)) = absurd (not_limited (run_of source (arguments_of (record { command = Run; file = file; steps = steps; arguments = arguments })) program_limits).ending (sym (ap status_of_outcome is) ∙ status))
+limited_result : (command : Command) (file : List ℕ) (bound : ℕ) (arguments : List (List ℕ)) (run : FilesRun) (source : Source) (outcome : Outcome) → outcome.status ≡ StepLimit
+    → IsResult (record { command = command; file = file; bound = bound; arguments = arguments }) run source outcome
+    → (command ≡ Run) × (bound < run_length source (arguments_of (record { command = command; file = file; bound = bound; arguments = arguments })) program_limits) × (bound < longest_run)
+limited_result Run file bound arguments run source outcome status (inl (enough, is)) = absurd (not_limited (run_of source (arguments_of (record { command = Run; file = file; bound = bound; arguments = arguments })) program_limits).ending (sym (ap status_of_outcome is) ∙ status))
   where
     not_limited : (end : Ending) → status_of (Some end) ≡ StepLimit → ⊥
     not_limited (ending.Returned number) same = cc
     not_limited (ending.Aborted type message) same = cc
     not_limited ending.HeapLimit same = cc
     not_limited ending.DepthLimit same = cc
-limited_result Run file steps arguments run source outcome status (inr (few, short, rest)) = (refl, few, omega (arith, few, short))
-limited_result Check file steps arguments run source outcome status is = absurd (let other : outcome.status ≡ Done = ap status_of_outcome is in cc)
-limited_result Build file steps arguments run source outcome status (bytes, image, inl (rose, loud, is)) = absurd (let other : outcome.status ≡ WriteFault = ap status_of_outcome is in cc)
-limited_result Build file steps arguments run source outcome status (bytes, image, inr (kept, is)) = absurd (let other : outcome.status ≡ Done = ap status_of_outcome is in cc)
-limited_result Dump file steps arguments run source outcome status is = absurd is
+limited_result Run file bound arguments run source outcome status (inr (few, short, rest)) = (refl, few, omega (arith, few, short))
+limited_result Check file bound arguments run source outcome status is = absurd is
+limited_result Build file bound arguments run source outcome status (bytes, image, inl (rose, loud, is)) = absurd (let other : outcome.status ≡ WriteFault = ap status_of_outcome is in cc)
+limited_result Build file bound arguments run source outcome status (bytes, image, inr (kept, is)) = absurd (let other : outcome.status ≡ Done = ap status_of_outcome is in cc)
+limited_result Dump file bound arguments run source outcome status is = absurd is
+limited_result Mean file bound arguments run source outcome status is = absurd is
+
+not_cut : (end : Option Ending) → meant_status end ≡ StepLimit → ⊥
+not_cut None same = cc
+not_cut (Some (ending.Returned number)) same = cc
+not_cut (Some (ending.Aborted type message)) same = cc
+not_cut (Some ending.HeapLimit) same = cc
+not_cut (Some ending.DepthLimit) same = cc
+
+limited_made : (command : Command) (file : List ℕ) (bound : ℕ) (arguments : List (List ℕ)) (program : ProgramParts) (outcome : Outcome) → outcome.status ≡ StepLimit → Made command file bound arguments program outcome → ⊥
+limited_made Run file bound arguments program outcome status is = is
+limited_made Check file bound arguments program outcome status is = let other : outcome.status ≡ Done = ap status_of_outcome is in cc
+limited_made Build file bound arguments program outcome status is = is
+limited_made Dump file bound arguments program outcome status is = is
+limited_made Mean file bound arguments program outcome status is =
+    not_cut (end_of (meaning_of program (arguments_of (record { command = Mean; file = file; bound = bound; arguments = arguments })) bound).finish) (sym (ap status_of_outcome is) ∙ status)
+
+-- a source whose run has more instructions than it may execute
+abbrev Limited : CommandLine → FilesRun → Source → Type 0
+Limited line run source = (line.command ≡ Run) × AcceptedFrom run line.file source × (line.bound < run_length source (arguments_of line) program_limits) × (line.bound < longest_run)
+
+limited_late : (line : CommandLine) (run : FilesRun) (outcome : Outcome) → outcome.status ≡ StepLimit → Late line run outcome → (source : Source) × Limited line run source
+limited_late line run outcome status (of_source source accepted is) =
+    let result = limited_result line.command line.file line.bound line.arguments run source outcome status is in
+    (source, (result.0, accepted, result.1, result.2))
+limited_late line run outcome status (of_program program types is) = absurd (limited_made line.command line.file line.bound line.arguments program outcome status is)
 
 step_limit_row : (words : List (List ℕ)) (run : FilesRun) (sinks : SinksRun) (answer : Status) → IsAnswer words run sinks answer → StepLimitRow words run answer
 step_limit_row words run sinks answer is same =
     let told = told_of words run sinks answer StepLimit same (λ other. cc) (λ other. cc) is in
-    let late_is = late_of words run sinks StepLimit refl (λ end. cc) told in
-    let line = told.cause.line in
-    let result = limited_result line.command line.file line.steps line.arguments run late_is.source told.outcome told.is late_is.result in
-    (line, told.cause.words_are, (result.0, late_is.source, late_is.accepted, result.1, result.2))
+    let result = limited_late told.cause.line run told.outcome told.is (late_of words run sinks StepLimit refl (λ end. cc) told) in
+    (told.cause.line, told.cause.words_are, (result.1.0, result.0, result.1.1, result.1.2, result.1.3))
+
+-- what goes on is the meaning of a program
+going_result : (command : Command) (file : List ℕ) (bound : ℕ) (arguments : List (List ℕ)) (run : FilesRun) (source : Source) (outcome : Outcome) → outcome.status ≡ Going
+    → IsResult (record { command = command; file = file; bound = bound; arguments = arguments }) run source outcome → ⊥
+going_result Run file bound arguments run source outcome status is =
+    let at = stage_of_execution source (arguments_of (record { command = Run; file = file; bound = bound; arguments = arguments })) bound outcome is in
+    let other : stage_of outcome.status ≡ at_meaning = ap stage_of status in
+    cc
+going_result Check file bound arguments run source outcome status is = is
+going_result Build file bound arguments run source outcome status (bytes, image, inl (rose, loud, is)) = let other : outcome.status ≡ WriteFault = ap status_of_outcome is in cc
+going_result Build file bound arguments run source outcome status (bytes, image, inr (kept, is)) = let other : outcome.status ≡ Done = ap status_of_outcome is in cc
+going_result Dump file bound arguments run source outcome status is = is
+going_result Mean file bound arguments run source outcome status is = is
+
+meant_going : (end : Option Ending) → meant_status end ≡ Going → end ≡ None
+meant_going None same = refl
+meant_going (Some (ending.Returned number)) same = cc
+meant_going (Some (ending.Aborted type message)) same = cc
+meant_going (Some ending.HeapLimit) same = cc
+meant_going (Some ending.DepthLimit) same = cc
+
+-- a typed program whose meaning has no end within the turns, and printed this
+abbrev GoesOn : CommandLine → FilesRun → ProgramParts → List ℕ → Type 0
+GoesOn line run program printed =
+    (line.command ≡ Mean) × TypedFrom run line.file program × (end_of (meaning_of program (arguments_of line) line.bound).finish ≡ None) × (printed ≡ (meaning_of program (arguments_of line) line.bound).output)
+
+going_made : (command : Command) (file : List ℕ) (bound : ℕ) (arguments : List (List ℕ)) (run : FilesRun) (program : ProgramParts) (outcome : Outcome) → outcome.status ≡ Going → TypedFrom run file program
+    → Made command file bound arguments program outcome → GoesOn (record { command = command; file = file; bound = bound; arguments = arguments }) run program outcome.output
+going_made Run file bound arguments run program outcome status types is = absurd is
+going_made Check file bound arguments run program outcome status types is = absurd (let other : outcome.status ≡ Done = ap status_of_outcome is in cc)
+going_made Build file bound arguments run program outcome status types is = absurd is
+going_made Dump file bound arguments run program outcome status types is = absurd is
+going_made Mean file bound arguments run program outcome status types is =
+    let run_is = meaning_of program (arguments_of (record { command = Mean; file = file; bound = bound; arguments = arguments })) bound in
+    (refl, types, meant_going (end_of run_is.finish) (sym (ap status_of_outcome is) ∙ status), ap output_of_outcome is)
+
+going_late : (line : CommandLine) (run : FilesRun) (outcome : Outcome) → outcome.status ≡ Going → Late line run outcome → (program : ProgramParts) × GoesOn line run program outcome.output
+going_late line run outcome status (of_source source accepted is) = absurd (going_result line.command line.file line.bound line.arguments run source outcome status is)
+going_late line run outcome status (of_program program types is) = (program, going_made line.command line.file line.bound line.arguments run program outcome status types is)
+
+going_row : (words : List (List ℕ)) (run : FilesRun) (sinks : SinksRun) (answer : Status) → IsAnswer words run sinks answer → GoingRow words run sinks answer
+going_row words run sinks answer is same =
+    let told = told_of words run sinks answer Going same (λ other. cc) (λ other. cc) is in
+    let goes = going_late told.cause.line run told.outcome told.is (late_of words run sinks Going refl (λ end. cc) told) in
+    (told.cause.line, told.cause.words_are, (goes.1.0, goes.0, goes.1.1, goes.1.2, subst (λ (text : List ℕ). Gains sinks.output sinks.output' text) goes.1.3 told.written.output))
 
 -- what was done of a source is no execution
-done_result : (command : Command) (file : List ℕ) (steps : ℕ) (arguments : List (List ℕ)) (run : FilesRun) (sinks : SinksRun) (source : Source) (outcome : Outcome) → outcome.status ≡ Done → AcceptedFrom run file source
-    → IsResult (record { command = command; file = file; steps = steps; arguments = arguments }) run source outcome → DoneFrom command run sinks file
-done_result Run file steps arguments run sinks source outcome status accepted is = absurd (let at = stage_of_execution source (arguments_of (record { command = Run; file = file; steps = steps; arguments = arguments })) steps outcome is in let other : stage_of outcome.status ≡ at_end = ap stage_of status in cc)
-done_result Check file steps arguments run sinks source outcome status accepted is = (source, accepted)
-done_result Build file steps arguments run sinks source outcome status accepted is = (source, accepted)
-done_result Dump file steps arguments run sinks source outcome status accepted is = absurd is
+done_result : (command : Command) (file : List ℕ) (bound : ℕ) (arguments : List (List ℕ)) (run : FilesRun) (sinks : SinksRun) (source : Source) (outcome : Outcome) → outcome.status ≡ Done → AcceptedFrom run file source
+    → IsResult (record { command = command; file = file; bound = bound; arguments = arguments }) run source outcome → DoneFrom command run sinks file
+done_result Run file bound arguments run sinks source outcome status accepted is = absurd (let at = stage_of_execution source (arguments_of (record { command = Run; file = file; bound = bound; arguments = arguments })) bound outcome is in let other : stage_of outcome.status ≡ at_end = ap stage_of status in cc)
+done_result Check file bound arguments run sinks source outcome status accepted is = absurd is
+done_result Build file bound arguments run sinks source outcome status accepted is = (source, accepted)
+done_result Dump file bound arguments run sinks source outcome status accepted is = absurd is
+done_result Mean file bound arguments run sinks source outcome status accepted is = absurd is
+
+not_done : (end : Option Ending) → meant_status end ≡ Done → ⊥
+not_done None same = cc
+not_done (Some (ending.Returned number)) same = cc
+not_done (Some (ending.Aborted type message)) same = cc
+not_done (Some ending.HeapLimit) same = cc
+not_done (Some ending.DepthLimit) same = cc
+
+done_made : (command : Command) (file : List ℕ) (bound : ℕ) (arguments : List (List ℕ)) (run : FilesRun) (sinks : SinksRun) (program : ProgramParts) (outcome : Outcome) → outcome.status ≡ Done → TypedFrom run file program
+    → Made command file bound arguments program outcome → DoneFrom command run sinks file
+done_made Run file bound arguments run sinks program outcome status types is = absurd is
+done_made Check file bound arguments run sinks program outcome status types is = (program, types)
+done_made Build file bound arguments run sinks program outcome status types is = absurd is
+done_made Dump file bound arguments run sinks program outcome status types is = absurd is
+done_made Mean file bound arguments run sinks program outcome status types is =
+    absurd (not_done (end_of (meaning_of program (arguments_of (record { command = Mean; file = file; bound = bound; arguments = arguments })) bound).finish) (sym (ap status_of_outcome is) ∙ status))
+
+done_late : (line : CommandLine) (run : FilesRun) (sinks : SinksRun) (outcome : Outcome) → outcome.status ≡ Done → Late line run outcome → DoneFrom line.command run sinks line.file
+done_late line run sinks outcome status (of_source source accepted is) = done_result line.command line.file line.bound line.arguments run sinks source outcome status accepted is
+done_late line run sinks outcome status (of_program program types is) = done_made line.command line.file line.bound line.arguments run sinks program outcome status types is
 
 done_from : (line : CommandLine) (run : FilesRun) (sinks : SinksRun) (outcome : Outcome) → outcome.status ≡ Done → Gains sinks.output sinks.output' outcome.output → Due line run outcome → DoneFrom line.command run sinks line.file
-done_from line run sinks outcome status gains (compiled other same (inl fault)) = absurd (let at : stage_of outcome.status ≡ at_load = stage_of_load run run.before line.file source_limit outcome.status fault.0 in let end : stage_of outcome.status ≡ at_end = ap stage_of status in cc)
-done_from line run sinks outcome status gains (compiled other same (inr loaded)) =
-    let late_is = late_from line run outcome loaded.0 (ap (λ (s : Status). is_late (stage_of s)) status) loaded.1 loaded.2 loaded.3 in
-    done_result line.command line.file line.steps line.arguments run sinks late_is.source outcome status late_is.accepted late_is.result
+done_from line run sinks outcome status gains (compiled reads_it (inl fault)) = absurd (let at : stage_of outcome.status ≡ at_load = stage_of_load run run.before line.file source_limit outcome.status fault.0 in let end : stage_of outcome.status ≡ at_end = ap stage_of status in cc)
+done_from line run sinks outcome status gains (compiled reads_it (inr loaded)) =
+    done_late line run sinks outcome status (late_from line run outcome loaded.0 (ap (λ (s : Status). is_late (stage_of s)) status) loaded.1 loaded.2 loaded.3)
+done_from line run sinks outcome status gains (typed reads_it (inl fault)) = absurd (let at : stage_of outcome.status ≡ at_load = stage_of_load run run.before line.file source_limit outcome.status fault.0 in let end : stage_of outcome.status ≡ at_end = ap stage_of status in cc)
+done_from line run sinks outcome status gains (typed reads_it (inr loaded)) =
+    done_late line run sinks outcome status (late_typed line run outcome loaded.0 (ap (λ (s : Status). is_late (stage_of s)) status) loaded.1 loaded.2 loaded.3)
 done_from line run sinks outcome status gains (listed dump (inl fault)) = absurd (let at : stage_of outcome.status ≡ at_load = stage_of_load run run.before line.file image_limit outcome.status fault.0 in let end : stage_of outcome.status ≡ at_end = ap stage_of status in cc)
 done_from line run sinks outcome status gains (listed dump (inr read)) = elim read.3 [
   | inl none ↦ absurd (let at : stage_of outcome.status ≡ at_image = ap (λ (o : Outcome). stage_of o.status) none.2 in let end : stage_of outcome.status ≡ at_end = ap stage_of status in cc)
@@ -383,6 +638,7 @@ answer_table words run sinks answer is = record {
   not_image = not_image_row words run sinks answer is;
   ended = ended_row words run sinks answer is;
   step_limit = step_limit_row words run sinks answer is;
+  going = going_row words run sinks answer is;
   done = done_row words run sinks answer is;
   memory = memory_row words run sinks answer is;
 }

@@ -1,6 +1,6 @@
 -- What a command comes to, from what its steps gave.
-use Rattle.std.proofs.Common.{◌≡◌, ◌≢◌, ◌≤◌, refl, inl, inr, ℕ, List, [], length, map, ap, ◌∙◌, sym, subst, arith}
-use Rattle.std.specs.Prelude.{Bool, true, false, nat_lt, if◌then◌else◌, Result, Ok, Err, Some, IsErrAnd, IsTrue}
+use Rattle.std.proofs.Common.{◌≡◌, ◌≢◌, ◌≤◌, ◌+◌, ◌^◌, refl, inl, inr, ℕ, List, [], length, map, ap, ◌∙◌, sym, subst, arith}
+use Rattle.std.specs.Prelude.{Bool, true, false, nat_lt, if◌then◌else◌, Result, Ok, Err, Option, Some, IsErrAnd, IsTrue}
 use Rattle.cc_base.specs.Outside.{FilesState, GoesOn, Holds, Rose}
 use Rattle.cc_cil.specs.declared.body.Body.{Body}
 use Rattle.cc_core.specs.StraightSource.{Source, source_operations}
@@ -17,9 +17,14 @@ use Rattle.cc_core.specs.StraightMeaning.{run_of}
 use Rattle.cc_straight.specs.declared.runner.Executed.{Executed}
 use Rattle.cc_straight.specs.Executing.{DoesWithin, run_length}
 use Rattle.cc_straight.specs.Reading.{Reads}
+use Rattle.cc_core.specs.SourceRun.{Meaning}
+use Rattle.cc_core.specs.declared.tree.ProgramParts.{ProgramParts}
+use Rattle.cc_base.specs.declared.running.Ending.{Ending}
+use Rattle.cc_front.specs.Reading.{Types}
+use Rattle.cc_mean.specs.Ends.{end_of}
 use Rattle.cc_straight.specs.Straight.{RunsAs}
-use Rattle.cc_words.specs.declared.command.Command.TheVariants.{Run, Check, Build, Dump}
-use Rattle.cppcli.specs.Answers.{FilesRun, AfterStore, ForSource, IsExecuted, IsModuleOf, IsNoImage, IsOutcomeOf, image_name, longest_run, program_limits, source_limit, status_of, stopped, units_of, done, printed}
+use Rattle.cc_words.specs.declared.command.Command.TheVariants.{Run, Check, Build, Dump, Mean}
+use Rattle.cppcli.specs.Answers.{FilesRun, AfterStore, ForSource, IsExecuted, IsModuleOf, IsNoImage, IsOutcomeOf, image_name, longest_run, meaning_of, meant, meant_status, program_limits, source_limit, status_of, stopped, units_of, done, printed}
 use Rattle.cppcli.specs.Notes.{note_of}
 use Rattle.cc_emit.proofs.Sizes.{image_within}
 use Rattle.cppcli.proofs.CodeLemmas.{code_within}
@@ -31,10 +36,10 @@ use Rattle.cppcli.specs.declared.status.Status.{Status}
 use Rattle.cppcli.specs.declared.status.Status.TheVariants.{NotImage, WriteFault, StepLimit}
 
 -- a fact of the outcome gives another, however the steps end
-end_of : (result : Result Outcome Stop) (P Q : Outcome → Type 0) → ((outcome : Outcome) → P outcome → Q outcome) → IsEnd result P → IsEnd result Q
-end_of (Ok outcome) P Q more holds = more outcome holds
-end_of (Err OutOfMemory) P Q more holds = holds
-end_of (Err (With outcome)) P Q more holds = more outcome holds
+end_of_steps : (result : Result Outcome Stop) (P Q : Outcome → Type 0) → ((outcome : Outcome) → P outcome → Q outcome) → IsEnd result P → IsEnd result Q
+end_of_steps (Ok outcome) P Q more holds = more outcome holds
+end_of_steps (Err OutOfMemory) P Q more holds = holds
+end_of_steps (Err (With outcome)) P Q more holds = more outcome holds
 
 abbrev outcome_with : Status → List ℕ → List ℕ → Outcome
 outcome_with status output note = record { status = status; output = output; note = note }
@@ -63,26 +68,41 @@ executed_outcome source arguments steps executed o within (inr (few, (going, (mo
     inr (few, run_within source arguments within, (executed.output, more, front, same_outcome o StepLimit executed.output (is_status ∙ ap status_of going) is_output is_note))
 
 -- a file that was loaded, compiled and executed
-pub run_outcome : (run : FilesRun) (file : List ℕ) (steps : ℕ) (arguments : List (List ℕ)) (bytes : List ℕ) (code : Body) (texts : List (List ℕ)) (result : Result Outcome Stop)
+pub run_outcome : (run : FilesRun) (file : List ℕ) (bound : ℕ) (arguments : List (List ℕ)) (bytes : List ℕ) (code : Body) (texts : List (List ℕ)) (result : Result Outcome Stop)
     → Holds run.before file bytes → length bytes ≤ source_limit → ForSource bytes (λ source. RunsAs code source) → texts ≡ map units_of arguments
-    → IsEnd result (λ outcome. (source : Source) → RunsAs code source → IsExecuted source texts steps outcome)
-    → IsEnd result (IsOutcomeOf (record { command = Run; file = file; steps = steps; arguments = arguments }) run)
-run_outcome run file steps arguments bytes code texts result held short compiled texts_are executed =
-    end_of result (λ outcome. (source : Source) → RunsAs code source → IsExecuted source (map units_of arguments) steps outcome)
-    (IsOutcomeOf (record { command = Run; file = file; steps = steps; arguments = arguments }) run)
+    → IsEnd result (λ outcome. (source : Source) → RunsAs code source → IsExecuted source texts bound outcome)
+    → IsEnd result (IsOutcomeOf (record { command = Run; file = file; bound = bound; arguments = arguments }) run)
+run_outcome run file bound arguments bytes code texts result held short compiled texts_are executed =
+    end_of_steps result (λ outcome. (source : Source) → RunsAs code source → IsExecuted source (map units_of arguments) bound outcome)
+    (IsOutcomeOf (record { command = Run; file = file; bound = bound; arguments = arguments }) run)
     (λ outcome does. inr (bytes, held, short, inr (compiled.0, λ source reads. does source (compiled.1 source reads))))
-    (subst (λ (t : List (List ℕ)). IsEnd result (λ outcome. (source : Source) → RunsAs code source → IsExecuted source t steps outcome)) texts_are executed)
+    (subst (λ (t : List (List ℕ)). IsEnd result (λ outcome. (source : Source) → RunsAs code source → IsExecuted source t bound outcome)) texts_are executed)
 
--- a file that was loaded and checked
-pub check_outcome : (run : FilesRun) (file : List ℕ) (steps : ℕ) (arguments : List (List ℕ)) (bytes : List ℕ) (source : Source)
-    → Holds run.before file bytes → length bytes ≤ source_limit → Reads bytes source → IsOutcomeOf (record { command = Check; file = file; steps = steps; arguments = arguments }) run done
-check_outcome run file steps arguments bytes source held short reads = inr (bytes, held, short, inr ((source, reads), λ other also. refl))
+-- a file that was loaded and typed
+pub check_outcome : (run : FilesRun) (file : List ℕ) (bound : ℕ) (arguments : List (List ℕ)) (bytes : List ℕ) (program : ProgramParts)
+    → Holds run.before file bytes → length bytes ≤ source_limit → Types bytes program → IsOutcomeOf (record { command = Check; file = file; bound = bound; arguments = arguments }) run done
+check_outcome run file bound arguments bytes program held short types = inr (bytes, held, short, inr (program, types, refl))
+
+-- what the execution of a meaning comes to
+pub meant_outcome : (run : Meaning) (end : Option Ending) (o : Outcome) → end ≡ end_of run.finish → o.status ≡ meant_status end → o.output ≡ run.output → o.note ≡ note_of o.status [] [] → o ≡ meant run
+meant_outcome run end o ends is_status is_output is_note = same_outcome o (meant_status (end_of run.finish)) run.output (is_status ∙ ap meant_status ends) is_output is_note
+
+-- a file that was loaded and typed, and whose meaning was executed
+pub mean_outcome : (run : FilesRun) (file : List ℕ) (turns : ℕ) (arguments : List (List ℕ)) (bytes : List ℕ) (program : ProgramParts) (texts : List (List ℕ)) (result : Result Outcome Stop)
+    → Holds run.before file bytes → length bytes ≤ source_limit → Types bytes program → texts ≡ map units_of arguments
+    → IsEnd result (λ outcome. outcome ≡ meant (meaning_of program texts turns))
+    → IsEnd result (IsOutcomeOf (record { command = Mean; file = file; bound = turns; arguments = arguments }) run)
+mean_outcome run file turns arguments bytes program texts result held short types texts_are executed =
+    end_of_steps result (λ outcome. outcome ≡ meant (meaning_of program (map units_of arguments) turns))
+    (IsOutcomeOf (record { command = Mean; file = file; bound = turns; arguments = arguments }) run)
+    (λ outcome is. inr (bytes, held, short, inr (program, types, is)))
+    (subst (λ (t : List (List ℕ)). IsEnd result (λ outcome. outcome ≡ meant (meaning_of program t turns))) texts_are executed)
 
 -- a file that was loaded, compiled, and whose image was to be stored
-pub build_outcome : (run : FilesRun) (file : List ℕ) (steps : ℕ) (arguments : List (List ℕ)) (bytes : List ℕ) (code : Body) (image : List ℕ) (outcome : Outcome)
+pub build_outcome : (run : FilesRun) (file : List ℕ) (bound : ℕ) (arguments : List (List ℕ)) (bytes : List ℕ) (code : Body) (image : List ℕ) (outcome : Outcome)
     → Holds run.before file bytes → length bytes ≤ source_limit → ForSource bytes (λ source. RunsAs code source) → IsImage (module_of code.code) image
-    → AfterStore run (image_name file) image outcome (outcome ≡ done) → IsOutcomeOf (record { command = Build; file = file; steps = steps; arguments = arguments }) run outcome
-build_outcome run file steps arguments bytes code image outcome held short compiled is_image after =
+    → AfterStore run (image_name file) image outcome (outcome ≡ done) → IsOutcomeOf (record { command = Build; file = file; bound = bound; arguments = arguments }) run outcome
+build_outcome run file bound arguments bytes code image outcome held short compiled is_image after =
     inr (bytes, held, short, inr (compiled.0, λ source reads. (image, record { main = code; runs = compiled.1 source reads; is_image = is_image; few = image_within code.code (code_within code source (compiled.1 source reads)) }, after)))
 
 -- what a fault of an image ends with
@@ -94,9 +114,9 @@ image_stopped bytes file fault OutOfMemory first none stop = stop
 image_stopped bytes file fault (With outcome) first none stop = (fault, record { first = first stop.0; none = λ m storable range is. stop.0 (none m storable range is) }, stop.1)
 
 -- a file that was loaded, read as an image and listed
-pub dump_outcome : (run : FilesRun) (file : List ℕ) (steps : ℕ) (arguments : List (List ℕ)) (bytes : List ℕ) (m : Module) (text : List ℕ)
-    → Holds run.before file bytes → length bytes ≤ image_limit → IsModuleOf bytes m → ListsModule m text → IsOutcomeOf (record { command = Dump; file = file; steps = steps; arguments = arguments }) run (printed text)
-dump_outcome run file steps arguments bytes m text held short is lists = inr (bytes, held, short, inr (m, is, (text, lists, refl)))
+pub dump_outcome : (run : FilesRun) (file : List ℕ) (bound : ℕ) (arguments : List (List ℕ)) (bytes : List ℕ) (m : Module) (text : List ℕ)
+    → Holds run.before file bytes → length bytes ≤ image_limit → IsModuleOf bytes m → ListsModule m text → IsOutcomeOf (record { command = Dump; file = file; bound = bound; arguments = arguments }) run (printed text)
+dump_outcome run file bound arguments bytes m text held short is lists = inr (bytes, held, short, inr (m, is, (text, lists, refl)))
 
 -- what a store did, seen from before the load
 module _ (run : FilesRun) (middle : FilesState) (quiet : Type 0) (on : GoesOn run.before middle) (name image : List ℕ) where
@@ -109,13 +129,13 @@ module _ (run : FilesRun) (middle : FilesState) (quiet : Type 0) (on : GoesOn ru
   store_went kept = inr (λ keeps. kept (subst IsTrue (sym (on.keeps name)) keeps), refl)
 
 -- a store that failed, whatever its memory
-pub build_stopped : (run : FilesRun) (file : List ℕ) (steps : ℕ) (arguments : List (List ℕ)) (bytes : List ℕ) (code : Body) (image : List ℕ) (middle : FilesState) (quiet : Type 0) → GoesOn run.before middle → (stop : Stop)
+pub build_stopped : (run : FilesRun) (file : List ℕ) (bound : ℕ) (arguments : List (List ℕ)) (bytes : List ℕ) (code : Body) (image : List ℕ) (middle : FilesState) (quiet : Type 0) → GoesOn run.before middle → (stop : Stop)
     → Holds run.before file bytes → length bytes ≤ source_limit → ForSource bytes (λ source. RunsAs code source) → IsImage (module_of code.code) image → (run.quiet → quiet)
     → IsStop stop (λ outcome. Rose (middle.store_faults (image_name file)) (run.after.store_faults (image_name file)) × (¬ quiet) × (outcome ≡ stopped WriteFault (image_name file) []))
-    → IsStop stop (IsOutcomeOf (record { command = Build; file = file; steps = steps; arguments = arguments }) run)
-build_stopped run file steps arguments bytes code image middle quiet on OutOfMemory held short compiled is_image still failed = failed
-build_stopped run file steps arguments bytes code image middle quiet on (With outcome) held short compiled is_image still failed =
-    build_outcome run file steps arguments bytes code image outcome held short compiled is_image (store_failed run middle quiet on (image_name file) image outcome failed.0 still failed.1 failed.2)
+    → IsStop stop (IsOutcomeOf (record { command = Build; file = file; bound = bound; arguments = arguments }) run)
+build_stopped run file bound arguments bytes code image middle quiet on OutOfMemory held short compiled is_image still failed = failed
+build_stopped run file bound arguments bytes code image middle quiet on (With outcome) held short compiled is_image still failed =
+    build_outcome run file bound arguments bytes code image outcome held short compiled is_image (store_failed run middle quiet on (image_name file) image outcome failed.0 still failed.1 failed.2)
 
 -- what a store that failed ends with
 pub stop_of_fault : (stop : Stop) (name : List ℕ) (R Q : Type 0) → stop ≡ With (stopped WriteFault name []) → R → Q → IsStop stop (λ outcome. R × Q × (outcome ≡ stopped WriteFault name []))

@@ -11,13 +11,19 @@ use Rattle.cc_base.specs.declared.running.Ending.{Ending}
 use Rattle.cc_base.specs.declared.running.Ending.TheVariants as ending
 use Rattle.cc_core.specs.StraightSource.{Source}
 use Rattle.cc_core.specs.StraightMeaning.{Ran, run_of}
+use Rattle.cc_core.specs.SourceRun as meaning
+use Rattle.cc_core.specs.SourceRun.{Meaning}
+use Rattle.cc_core.specs.declared.tree.ProgramParts.{ProgramParts}
+use Rattle.cc_front.specs.Reading as front
+use Rattle.cc_front.specs.Reading.{Types}
+use Rattle.cc_mean.specs.Ends.{end_of}
 use Rattle.cppcli.specs.Notes.{note_of}
 use Rattle.cc_cil.specs.declared.body.Body.{Body}
 use Rattle.cc_module.specs.declared.module.Module.{Module}
 use Rattle.cc_module.specs.Storable.{IsInRange, IsStorable, image_size}
 use Rattle.cc_listing.specs.Listing.{ListsModule}
 use Rattle.cc_straight.specs.Executing.{run_length}
-use Rattle.cc_straight.specs.Reading.{Purpose, execution, checking, Reads, Refuses}
+use Rattle.cc_straight.specs.Reading.{execution, Reads, Refuses}
 use Rattle.cc_straight.specs.Straight.{RunsAs}
 use Rattle.cc_emit.specs.Program.{image_limit, module_of}
 use Rattle.cc_image.specs.Images.{IsImage}
@@ -25,10 +31,10 @@ use Rattle.cc_image.specs.Reading.{IsFirstFault}
 use Rattle.cc_image.specs.declared.fault.ImageFault.{ImageFault}
 use Rattle.cc_words.specs.Words.{CommandLine, command_line, first_command}
 use Rattle.cc_words.specs.declared.command.Command.{Command}
-use Rattle.cc_words.specs.declared.command.Command.TheVariants.{Run, Check, Build, Dump}
+use Rattle.cc_words.specs.declared.command.Command.TheVariants.{Run, Check, Build, Dump, Mean}
 use Rattle.cppcli.specs.declared.outcome.Outcome.{Outcome}
 use Rattle.cppcli.specs.declared.status.Status.{Status}
-use Rattle.cppcli.specs.declared.status.Status.TheVariants.{Done, Ended, Usage, Absent, ReadFault, WriteFault, TooLong, Refused, NotImage, Aborted, HeapLimit, DepthLimit, StepLimit, Memory}
+use Rattle.cppcli.specs.declared.status.Status.TheVariants.{Done, Ended, Usage, Absent, ReadFault, WriteFault, TooLong, Refused, NotImage, Aborted, HeapLimit, DepthLimit, StepLimit, Going, Memory}
 
 -- the longest source, in bytes
 abbrev pub source_limit : ℕ
@@ -68,6 +74,23 @@ IsExecuted source arguments steps outcome =
     ((run_length source arguments program_limits ≤ steps) × (outcome ≡ ended (run_of source arguments program_limits)))
     ⊎ ((steps < run_length source arguments program_limits) × (run_length source arguments program_limits ≤ longest_run)
     × ((printed more : List ℕ) × ((run_of source arguments program_limits).output ≡ printed ++ more) × (outcome ≡ cut printed)))
+
+-- what the meaning of a program may use
+abbrev pub meaning_limits : Limits
+meaning_limits = record { frames = 16; cells = 8000000 }
+
+-- the meaning of a program, where each run of a loop makes at most so many turns
+abbrev pub meaning_of : ProgramParts → List (List ℕ) → ℕ → Meaning
+meaning_of program arguments turns = meaning.run_of program.classes program.bodies program.main [] arguments meaning_limits turns
+
+-- the status of a meaning that has ended, or that goes on past its turns
+abbrev pub meant_status : Option Ending → Status
+meant_status None = Going
+meant_status (Some end) = status_of (Some end)
+
+-- the outcome of a meaning that was executed
+abbrev pub meant : Meaning → Outcome
+meant run = record { status = meant_status (end_of run.finish); output = run.output; note = note_of (meant_status (end_of run.finish)) [] [] }
 
 -- a word as units of UTF-16
 abbrev pub units_of : List ℕ → List ℕ
@@ -110,11 +133,17 @@ AfterLoad run files name limit outcome next =
 abbrev pub ForSource : List ℕ → (Source → Type 0) → Type 0
 ForSource bytes P = ((source : Source) × Reads bytes source) × ((source : Source) → Reads bytes source → P source)
 
--- the bytes of the file are compiled, to be executed or only to be checked
-abbrev pub AfterCompile : Purpose → List ℕ → List ℕ → Outcome → (Source → Type 0) → Type 0
-AfterCompile purpose file bytes outcome next =
-    ((kind : Kind) × (span : Span) × Refuses purpose bytes kind span × (outcome ≡ stopped (Refused kind span) file bytes))
+-- the bytes of the file are compiled
+abbrev pub AfterCompile : List ℕ → List ℕ → Outcome → (Source → Type 0) → Type 0
+AfterCompile file bytes outcome next =
+    ((kind : Kind) × (span : Span) × Refuses execution bytes kind span × (outcome ≡ stopped (Refused kind span) file bytes))
     ⊎ ForSource bytes next
+
+-- the bytes of the file are typed; all programs as which they are typed mean the same
+abbrev pub AfterTyping : List ℕ → List ℕ → Outcome → (ProgramParts → Type 0) → Type 0
+AfterTyping file bytes outcome next =
+    ((kind : Kind) × (span : Span) × front.Refuses bytes kind span × (outcome ≡ stopped (Refused kind span) file bytes))
+    ⊎ ((program : ProgramParts) × Types bytes program × next program)
 
 -- the name of the image of a file
 abbrev pub image_name : List ℕ → List ℕ
@@ -165,20 +194,24 @@ IsOutcomeOf line run outcome = by line.command
     by : Command → Type 0
     by Run =
         AfterLoad run run.before line.file source_limit outcome (λ bytes.
-        AfterCompile execution line.file bytes outcome (λ source.
-        IsExecuted source (arguments_of line) line.steps outcome))
+        AfterCompile line.file bytes outcome (λ source.
+        IsExecuted source (arguments_of line) line.bound outcome))
     by Check =
         AfterLoad run run.before line.file source_limit outcome (λ bytes.
-        AfterCompile checking line.file bytes outcome (λ source.
+        AfterTyping line.file bytes outcome (λ program.
         outcome ≡ done))
     by Build =
         AfterLoad run run.before line.file source_limit outcome (λ bytes.
-        AfterCompile execution line.file bytes outcome (λ source.
+        AfterCompile line.file bytes outcome (λ source.
         IsBuilt run (image_name line.file) source outcome))
     by Dump =
         AfterLoad run run.before line.file image_limit outcome (λ bytes.
         AfterImage line.file bytes outcome (λ m.
         IsListed m outcome))
+    by Mean =
+        AfterLoad run run.before line.file source_limit outcome (λ bytes.
+        AfterTyping line.file bytes outcome (λ program.
+        outcome ≡ meant (meaning_of program (arguments_of line) line.bound)))
 
 -- what the words ask for; they are no command, or memory runs out, or the command has an outcome
 abbrev pub IsOutcomeFor : Option CommandLine → FilesRun → Outcome → Type 0
@@ -198,6 +231,7 @@ KeepsFiles (Some line) run status = by line.command
     by Run = GivesSame run.before run.after
     by Check = GivesSame run.before run.after
     by Dump = GivesSame run.before run.after
+    by Mean = GivesSame run.before run.after
     by Build = GivesSameBut (image_name line.file) run.before run.after × (status ≢ Done → status ≢ WriteFault → GivesSame run.before run.after)
 
 -- The sinks as the call found them and as it left them, and the numbers of bytes that they were sure to take.

@@ -9,11 +9,14 @@ use Rattle.cc_module.specs.Storable.{IsInRange, IsStorable}
 use Rattle.cc_image.specs.Images.{IsImage}
 use Rattle.cc_image.specs.declared.fault.ImageFault.{ImageFault}
 use Rattle.cc_emit.specs.Program.{image_limit}
-use Rattle.cc_straight.specs.Reading.{Purpose, execution, checking, Reads, Refuses}
+use Rattle.cc_straight.specs.Reading.{execution, Reads, Refuses}
+use Rattle.cc_core.specs.declared.tree.ProgramParts.{ProgramParts}
+use Rattle.cc_front.specs.Reading as front
+use Rattle.cc_front.specs.Reading.{Types}
 use Rattle.cc_words.specs.Words.{CommandLine, command_line}
 use Rattle.cc_words.specs.declared.command.Command.{Command}
-use Rattle.cc_words.specs.declared.command.Command.TheVariants.{Run, Check, Build, Dump}
-use Rattle.cppcli.specs.Answers.{FilesRun, SinksRun, IsBuilt, IsDelivered, IsExecuted, IsListed, IsNoImage, arguments_of, image_name, source_limit, stopped, done}
+use Rattle.cc_words.specs.declared.command.Command.TheVariants.{Run, Check, Build, Dump, Mean}
+use Rattle.cppcli.specs.Answers.{FilesRun, SinksRun, IsBuilt, IsDelivered, IsExecuted, IsListed, IsNoImage, arguments_of, image_name, meaning_of, meant, source_limit, stopped, done}
 use Rattle.cppcli.specs.declared.outcome.Outcome.{Outcome}
 use Rattle.cppcli.specs.declared.status.Status.{Status}
 use Rattle.cppcli.specs.declared.status.Status.TheVariants.{Absent, TooLong, Refused, NotImage, Memory}
@@ -22,29 +25,41 @@ use Rattle.cppcli.specs.declared.status.Status.TheVariants.{Absent, TooLong, Ref
 abbrev pub LoadsWell : FilesRun → List ℕ → Type 0
 LoadsWell run file = (¬ Rose (run.before.load_faults file) (run.after.load_faults file)) ⊎ run.quiet
 
--- what a command reads its file for, where that is a source
-abbrev pub purpose_of : Command → Purpose
-purpose_of Run = execution
-purpose_of Check = checking
-purpose_of Build = execution
-purpose_of Dump = checking
-
--- what a command makes of a source: its run, nothing, or its image; one that reads no source makes nothing of it
+-- what a command makes of a source that it compiles: its run, or its image; another command makes nothing of it
 abbrev pub IsResult : CommandLine → FilesRun → Source → Outcome → Type 0
 IsResult line run source outcome = by line.command
   where
     by : Command → Type 0
-    by Run = IsExecuted source (arguments_of line) line.steps outcome
-    by Check = outcome ≡ done
+    by Run = IsExecuted source (arguments_of line) line.bound outcome
+    by Check = ⊥
     by Build = IsBuilt run (image_name line.file) source outcome
     by Dump = ⊥
+    by Mean = ⊥
 
--- what the bytes of the command's file come to, where it reads a source
+-- what a command makes of a typed program: nothing, or its meaning
+abbrev pub IsMade : CommandLine → ProgramParts → Outcome → Type 0
+IsMade line program outcome = by line.command
+  where
+    by : Command → Type 0
+    by Run = ⊥
+    by Check = outcome ≡ done
+    by Build = ⊥
+    by Dump = ⊥
+    by Mean = outcome ≡ meant (meaning_of program (arguments_of line) line.bound)
+
+-- what the bytes of the command's file come to, where it compiles a source
 pub record BytesComeTo (line : CommandLine) (run : FilesRun) (bytes : List ℕ) (outcome : Outcome) : Type 0 where
   pub too_long : source_limit < length bytes → outcome ≡ stopped TooLong line.file []
   pub accepted : length bytes ≤ source_limit → (source : Source) → Reads bytes source → IsResult line run source outcome
   pub refused : length bytes ≤ source_limit → ((source : Source) → Reads bytes source → ⊥) →
-      (kind : Kind) × (span : Span) × Refuses (purpose_of line.command) bytes kind span × (outcome ≡ stopped (Refused kind span) line.file bytes)
+      (kind : Kind) × (span : Span) × Refuses execution bytes kind span × (outcome ≡ stopped (Refused kind span) line.file bytes)
+
+-- what they come to where it types a source
+pub record TypedComesTo (line : CommandLine) (bytes : List ℕ) (outcome : Outcome) : Type 0 where
+  pub too_long : source_limit < length bytes → outcome ≡ stopped TooLong line.file []
+  pub accepted : length bytes ≤ source_limit → (program : ProgramParts) → Types bytes program → IsMade line program outcome
+  pub refused : length bytes ≤ source_limit → ((program : ProgramParts) → Types bytes program → ⊥) →
+      (kind : Kind) × (span : Span) × front.Refuses bytes kind span × (outcome ≡ stopped (Refused kind span) line.file bytes)
 
 -- what the bytes of the command's file come to, where it reads an image
 pub record ImageComesTo (line : CommandLine) (bytes : List ℕ) (outcome : Outcome) : Type 0 where
@@ -55,9 +70,10 @@ pub record ImageComesTo (line : CommandLine) (bytes : List ℕ) (outcome : Outco
 
 abbrev pub BytesOf : Command → CommandLine → FilesRun → List ℕ → Outcome → Type 0
 BytesOf Run line run bytes outcome = BytesComeTo line run bytes outcome
-BytesOf Check line run bytes outcome = BytesComeTo line run bytes outcome
+BytesOf Check line run bytes outcome = TypedComesTo line bytes outcome
 BytesOf Build line run bytes outcome = BytesComeTo line run bytes outcome
 BytesOf Dump line run bytes outcome = ImageComesTo line bytes outcome
+BytesOf Mean line run bytes outcome = TypedComesTo line bytes outcome
 
 abbrev pub ComesTo : CommandLine → FilesRun → Option (List ℕ) → Outcome → Type 0
 ComesTo line run None outcome = outcome ≡ stopped Absent line.file []

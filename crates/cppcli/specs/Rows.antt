@@ -1,9 +1,9 @@
 -- What each answer tells a caller, in a row for each.
-use Rattle.std.specs.Prelude.{◌≡◌, ◌⊎◌, ◌≤◌, ◌<◌, ◌+◌, ℕ, ℤ, List, length, Some, None, is_some, true}
+use Rattle.std.specs.Prelude.{◌≡◌, ◌⊎◌, ◌≤◌, ◌<◌, ◌+◌, ℕ, List, length, Some, None, is_some, true}
 use Rattle.cc_base.specs.Outside.{Rose, Holds, HoldsMore, Lacks, Gains}
 use Rattle.cc_base.specs.declared.kind.Kind.{Kind}
 use Rattle.cc_base.specs.declared.text.Span.{Span}
-use Rattle.cc_base.specs.declared.running.Ending.TheVariants.{Returned}
+use Rattle.cc_base.specs.declared.running.Ending.{Ending}
 use Rattle.cc_core.specs.StraightSource.{Source}
 use Rattle.cc_module.specs.declared.module.Module.{Module}
 use Rattle.cc_image.specs.declared.fault.ImageFault.{ImageFault}
@@ -11,14 +11,17 @@ use Rattle.cc_listing.specs.Listing.{ListsModule}
 use Rattle.cc_emit.specs.Program.{image_limit}
 use Rattle.cc_core.specs.StraightMeaning.{run_of}
 use Rattle.cc_straight.specs.Executing.{run_length}
-use Rattle.cc_straight.specs.Reading.{Reads, Refuses}
+use Rattle.cc_straight.specs.Reading.{execution, Reads, Refuses}
+use Rattle.cc_core.specs.declared.tree.ProgramParts.{ProgramParts}
+use Rattle.cc_front.specs.Reading as front
+use Rattle.cc_front.specs.Reading.{Types}
+use Rattle.cc_mean.specs.Ends.{end_of}
 use Rattle.cc_words.specs.Words.{CommandLine, command_line, first_command}
 use Rattle.cc_words.specs.declared.command.Command.{Command}
-use Rattle.cc_words.specs.declared.command.Command.TheVariants.{Run, Check, Build, Dump}
-use Rattle.cppcli.specs.Answers.{FilesRun, SinksRun, IsModuleOf, IsNoImage, arguments_of, image_name, longest_run, source_limit, program_limits}
-use Rattle.cppcli.specs.Complete.{purpose_of}
+use Rattle.cc_words.specs.declared.command.Command.TheVariants.{Run, Check, Build, Dump, Mean}
+use Rattle.cppcli.specs.Answers.{FilesRun, SinksRun, IsModuleOf, IsNoImage, arguments_of, image_name, longest_run, meaning_of, source_limit, program_limits, status_of}
 use Rattle.cppcli.specs.declared.status.Status.{Status}
-use Rattle.cppcli.specs.declared.status.Status.TheVariants.{Done, Ended, Usage, Absent, ReadFault, WriteFault, TooLong, Refused, NotImage, StepLimit, Memory}
+use Rattle.cppcli.specs.declared.status.Status.TheVariants.{Done, Usage, Absent, ReadFault, WriteFault, TooLong, Refused, NotImage, StepLimit, Going, Memory}
 
 -- the words are a command of which P holds
 abbrev pub ForCommand : List (List ℕ) → (CommandLine → Type 0) → Type 0
@@ -51,14 +54,23 @@ limit_of Run = source_limit
 limit_of Check = source_limit
 limit_of Build = source_limit
 limit_of Dump = image_limit
+limit_of Mean = source_limit
 
 abbrev pub TooLongRow : List (List ℕ) → FilesRun → Status → Type 0
 TooLongRow words run answer = answer ≡ TooLong → ForCommand words (λ line.
     (front : List ℕ) × HoldsMore run.before line.file front × (length front ≡ limit_of line.command + 1))
 
+-- the rules refuse these bytes so, when the command compiles or types them
+abbrev pub RefusesFor : Command → List ℕ → Kind → Span → Type 0
+RefusesFor Run bytes kind span = Refuses execution bytes kind span
+RefusesFor Check bytes kind span = front.Refuses bytes kind span
+RefusesFor Build bytes kind span = Refuses execution bytes kind span
+RefusesFor Dump bytes kind span = ⊥
+RefusesFor Mean bytes kind span = front.Refuses bytes kind span
+
 -- these files hold bytes under the command's name that the rules refuse so
 abbrev pub RefusedFrom : FilesRun → CommandLine → Kind → Span → Type 0
-RefusedFrom run line kind span = (bytes : List ℕ) × Holds run.before line.file bytes × (length bytes ≤ source_limit) × Refuses (purpose_of line.command) bytes kind span
+RefusedFrom run line kind span = (bytes : List ℕ) × Holds run.before line.file bytes × (length bytes ≤ source_limit) × RefusesFor line.command bytes kind span
 
 abbrev pub RefusedRow : List (List ℕ) → FilesRun → Status → Type 0
 RefusedRow words run answer = (kind : Kind) (span : Span) → answer ≡ Refused kind span → ForCommand words (λ line. RefusedFrom run line kind span)
@@ -74,21 +86,41 @@ NotImageRow words run answer = (fault : ImageFault) → answer ≡ NotImage faul
 abbrev pub AcceptedFrom : FilesRun → List ℕ → Source → Type 0
 AcceptedFrom run file source = (bytes : List ℕ) × Holds run.before file bytes × (length bytes ≤ source_limit) × Reads bytes source
 
--- the source's run returns the number within the steps, and prints these bytes
-abbrev pub Returns : CommandLine → Source → ℤ → List ℕ → Type 0
-Returns line source number printed =
-    (run_length source (arguments_of line) program_limits ≤ line.steps)
-    × ((run_of source (arguments_of line) program_limits).ending ≡ Returned number) × (printed ≡ (run_of source (arguments_of line) program_limits).output)
+-- the source's run ends so within the steps, and prints these bytes
+abbrev pub Ends : CommandLine → Source → Ending → List ℕ → Type 0
+Ends line source ending printed =
+    (run_length source (arguments_of line) program_limits ≤ line.bound)
+    × ((run_of source (arguments_of line) program_limits).ending ≡ ending) × (printed ≡ (run_of source (arguments_of line) program_limits).output)
 
--- a program that has ended is that of the file, and what it prints is written
+-- these files hold bytes under the name that are typed as the program
+abbrev pub TypedFrom : FilesRun → List ℕ → ProgramParts → Type 0
+TypedFrom run file program = (bytes : List ℕ) × Holds run.before file bytes × (length bytes ≤ source_limit) × Types bytes program
+
+-- the program of the command's file ends so and prints these bytes, when it is compiled and executed, or by its meaning
+abbrev pub EndedFrom : Command → CommandLine → FilesRun → Ending → List ℕ → Type 0
+EndedFrom Run line run ending printed = (source : Source) × AcceptedFrom run line.file source × Ends line source ending printed
+EndedFrom Check line run ending printed = ⊥
+EndedFrom Build line run ending printed = ⊥
+EndedFrom Dump line run ending printed = ⊥
+EndedFrom Mean line run ending printed =
+    (program : ProgramParts) × TypedFrom run line.file program
+    × (end_of (meaning_of program (arguments_of line) line.bound).finish ≡ Some ending) × (printed ≡ (meaning_of program (arguments_of line) line.bound).output)
+
+-- a program that returned a number, was aborted or met a limit is that of the file, which ends so, and what it prints is written
 abbrev pub EndedRow : List (List ℕ) → FilesRun → SinksRun → Status → Type 0
-EndedRow words run sinks answer = (number : ℤ) → answer ≡ Ended number → ForCommand words (λ line.
-    (line.command ≡ Run) × (source : Source) × (printed : List ℕ) × AcceptedFrom run line.file source × Returns line source number printed × Gains sinks.output sinks.output' printed)
+EndedRow words run sinks answer = (ending : Ending) → answer ≡ status_of (Some ending) → ForCommand words (λ line.
+    (printed : List ℕ) × EndedFrom line.command line run ending printed × Gains sinks.output sinks.output' printed)
+
+-- a program whose meaning goes on is that of the file: its meaning has no end within the turns, and what it prints within them is written
+abbrev pub GoingRow : List (List ℕ) → FilesRun → SinksRun → Status → Type 0
+GoingRow words run sinks answer = answer ≡ Going → ForCommand words (λ line.
+    (line.command ≡ Mean) × (program : ProgramParts) × TypedFrom run line.file program
+    × (end_of (meaning_of program (arguments_of line) line.bound).finish ≡ None) × Gains sinks.output sinks.output' (meaning_of program (arguments_of line) line.bound).output)
 
 -- a program that has not ended has a run of more instructions, and none has more than the longest
 abbrev pub StepLimitRow : List (List ℕ) → FilesRun → Status → Type 0
 StepLimitRow words run answer = answer ≡ StepLimit → ForCommand words (λ line.
-    (line.command ≡ Run) × (source : Source) × AcceptedFrom run line.file source × (line.steps < run_length source (arguments_of line) program_limits) × (line.steps < longest_run))
+    (line.command ≡ Run) × (source : Source) × AcceptedFrom run line.file source × (line.bound < run_length source (arguments_of line) program_limits) × (line.bound < longest_run))
 
 -- these files hold bytes under the name that are an image of a module, whose listing the bytes are
 abbrev pub ListedFrom : FilesRun → List ℕ → List ℕ → Type 0
@@ -97,9 +129,10 @@ ListedFrom run file text = (bytes : List ℕ) × (m : Module) × Holds run.befor
 -- the file of a command that was done: a source, or an image whose listing was written; an execution ends otherwise
 abbrev pub DoneFrom : Command → FilesRun → SinksRun → List ℕ → Type 0
 DoneFrom Run run sinks file = ⊥
-DoneFrom Check run sinks file = (source : Source) × AcceptedFrom run file source
+DoneFrom Check run sinks file = (program : ProgramParts) × TypedFrom run file program
 DoneFrom Build run sinks file = (source : Source) × AcceptedFrom run file source
 DoneFrom Dump run sinks file = (text : List ℕ) × ListedFrom run file text × Gains sinks.output sinks.output' text
+DoneFrom Mean run sinks file = ⊥
 
 abbrev pub DoneRow : List (List ℕ) → FilesRun → SinksRun → Status → Type 0
 DoneRow words run sinks answer = answer ≡ Done → ForCommand words (λ line. DoneFrom line.command run sinks line.file)
@@ -119,5 +152,6 @@ pub record AnswerTable (words : List (List ℕ)) (run : FilesRun) (sinks : Sinks
   pub not_image : NotImageRow words run answer
   pub ended : EndedRow words run sinks answer
   pub step_limit : StepLimitRow words run answer
+  pub going : GoingRow words run sinks answer
   pub done : DoneRow words run sinks answer
   pub memory : MemoryRow words answer

@@ -9,7 +9,8 @@ use crate::Status;
 use crate::arguments::texts_of;
 use crate::outcome::{Outcome, Stop};
 use crate::steps::{
-    check_source, compile, execute, image_name, image_of, list_module, load, read_module, store,
+    compile, execute, execute_meaning, image_name, image_of, list_module, load, read_module, store,
+    type_source,
 };
 use cc_base::{Files, List};
 use cc_words::{Command, Request};
@@ -28,7 +29,7 @@ fn run<F: Files>(
     arguments: &[String],
     files: &mut F,
 ) -> Result<Outcome, Stop>
-    ensures outcome { IsEnd result (IsOutcomeOf (record { command = Command.Run; file = file.now; steps = steps; arguments = map (λ word. string_bytes word) arguments.now }) (record { before = F.state files.old; after = F.state files.new; quiet = F.quiet files.old })) }
+    ensures outcome { IsEnd result (IsOutcomeOf (record { command = Command.Run; file = file.now; bound = steps; arguments = map (λ word. string_bytes word) arguments.now }) (record { before = F.state files.old; after = F.state files.new; quiet = F.quiet files.old })) }
     ensures same { GivesSame (F.state files.old) (F.state files.new) }
 {
     let bytes = load(alloc, files, file, SOURCE_LIMIT)?;
@@ -49,16 +50,16 @@ fn done(alloc: Global) -> Outcome
 }
 
 fn check<F: Files>(alloc: Global, file: &str, files: &mut F) -> Result<Outcome, Stop>
-    ensures outcome { (steps : ℕ) (arguments : List (List ℕ)) → IsEnd result (IsOutcomeOf (record { command = Command.Check; file = file.now; steps = steps; arguments = arguments }) (record { before = F.state files.old; after = F.state files.new; quiet = F.quiet files.old })) }
+    ensures outcome { (bound : ℕ) (arguments : List (List ℕ)) → IsEnd result (IsOutcomeOf (record { command = Command.Check; file = file.now; bound = bound; arguments = arguments }) (record { before = F.state files.old; after = F.state files.new; quiet = F.quiet files.old })) }
     ensures same { GivesSame (F.state files.old) (F.state files.new) }
 {
     let bytes = load(alloc, files, file, SOURCE_LIMIT)?;
-    check_source(alloc, file, &bytes)?;
+    type_source(alloc, file, &bytes)?;
     Ok(done(alloc))
 }
 
 fn build<F: Files>(alloc: Global, file: &str, files: &mut F) -> Result<Outcome, Stop>
-    ensures outcome { (steps : ℕ) (arguments : List (List ℕ)) → IsEnd result (IsOutcomeOf (record { command = Command.Build; file = file.now; steps = steps; arguments = arguments }) (record { before = F.state files.old; after = F.state files.new; quiet = F.quiet files.old })) }
+    ensures outcome { (bound : ℕ) (arguments : List (List ℕ)) → IsEnd result (IsOutcomeOf (record { command = Command.Build; file = file.now; bound = bound; arguments = arguments }) (record { before = F.state files.old; after = F.state files.new; quiet = F.quiet files.old })) }
     ensures others { GivesSameBut (image_name file.now) (F.state files.old) (F.state files.new) }
     ensures kept { ended_status result ≢ Status.Done → ended_status result ≢ Status.WriteFault → GivesSame (F.state files.old) (F.state files.new) }
 {
@@ -82,7 +83,7 @@ fn printed(alloc: Global, text: Vec<u8>) -> Outcome
 }
 
 fn dump<F: Files>(alloc: Global, file: &str, files: &mut F) -> Result<Outcome, Stop>
-    ensures outcome { (steps : ℕ) (arguments : List (List ℕ)) → IsEnd result (IsOutcomeOf (record { command = Command.Dump; file = file.now; steps = steps; arguments = arguments }) (record { before = F.state files.old; after = F.state files.new; quiet = F.quiet files.old })) }
+    ensures outcome { (bound : ℕ) (arguments : List (List ℕ)) → IsEnd result (IsOutcomeOf (record { command = Command.Dump; file = file.now; bound = bound; arguments = arguments }) (record { before = F.state files.old; after = F.state files.new; quiet = F.quiet files.old })) }
     ensures same { GivesSame (F.state files.old) (F.state files.new) }
 {
     let bytes = load(alloc, files, file, IMAGE_LIMIT)?;
@@ -91,16 +92,33 @@ fn dump<F: Files>(alloc: Global, file: &str, files: &mut F) -> Result<Outcome, S
     Ok(printed(alloc, text))
 }
 
+fn mean<F: Files>(
+    alloc: Global,
+    file: &str,
+    turns: u32,
+    arguments: &[String],
+    files: &mut F,
+) -> Result<Outcome, Stop>
+    ensures outcome { IsEnd result (IsOutcomeOf (record { command = Command.Mean; file = file.now; bound = turns; arguments = map (λ word. string_bytes word) arguments.now }) (record { before = F.state files.old; after = F.state files.new; quiet = F.quiet files.old })) }
+    ensures same { GivesSame (F.state files.old) (F.state files.new) }
+{
+    let bytes = load(alloc, files, file, SOURCE_LIMIT)?;
+    let program = type_source(alloc, file, &bytes)?;
+    let texts = texts_of(alloc, arguments)?;
+    execute_meaning(alloc, &program, texts.as_slice(), turns)
+}
+
 // How the steps of a command end.
 fn end_of<F: Files>(alloc: Global, request: Request<'_>, files: &mut F) -> Result<Outcome, Stop>
     ensures outcome { IsEnd result (IsOutcomeOf (shown request.entry) (record { before = F.state files.old; after = F.state files.new; quiet = F.quiet files.old })) }
     ensures files { KeepsFiles (Some (shown request.entry)) (record { before = F.state files.old; after = F.state files.new; quiet = F.quiet files.old }) (ended_status result) }
 {
     match request.command {
-        Command::Run => run(alloc, request.file, request.steps, request.arguments, files),
+        Command::Run => run(alloc, request.file, request.bound, request.arguments, files),
         Command::Check => check(alloc, request.file, files),
         Command::Build => build(alloc, request.file, files),
         Command::Dump => dump(alloc, request.file, files),
+        Command::Mean => mean(alloc, request.file, request.bound, request.arguments, files),
     }
 }
 

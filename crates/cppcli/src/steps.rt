@@ -3,24 +3,30 @@ ghost use Rattle.std.specs.Prelude.{◌≡◌, ◌≢◌, ◌≤◌, ◌<◌, �
 ghost use Rattle.std.specs.List.{All};
 ghost use Rattle.cc_base.specs.Outside.{GivesSame, GivesSameBut, GoesOn, Holds, Rose};
 ghost use Rattle.cc_core.specs.StraightSource.{Source};
-ghost use Rattle.cc_straight.specs.Reading.{execution, checking, Reads, Refuses};
+ghost use Rattle.cc_straight.specs.Reading.{execution, Reads, Refuses};
+ghost use Rattle.cc_core.specs.declared.tree.ProgramParts.{ProgramParts};
+ghost use Rattle.cc_front.specs.Reading as front;
+ghost use Rattle.cc_front.specs.Reading.{Types};
 ghost use Rattle.cc_straight.specs.Straight.{RunsAs};
 ghost use Rattle.cc_emit.specs.Program.{module_of, code_limit};
 ghost use Rattle.cc_image.specs.Images.{IsImage};
 ghost use Rattle.cc_image.specs.declared.fault.ImageFault.{ImageFault};
 ghost use Rattle.cc_module.specs.Storable.{IsStorable};
 ghost use Rattle.cc_listing.specs.Listing.{ListsModule};
-ghost use Rattle.cppcli.specs.Answers.{FilesRun, IsLoadFault, IsExecuted, stopped, status_of, image_name, ForSource, IsModuleOf, IsNoImage};
+ghost use Rattle.cppcli.specs.Answers.{FilesRun, IsLoadFault, IsExecuted, stopped, status_of, meant_status, meaning_of, meant, image_name, ForSource, IsModuleOf, IsNoImage};
 ghost use Rattle.cppcli.specs.Stops.{IsStop, IsEnd};
 
 use crate::Status;
 use crate::note::note;
 use crate::outcome::{Outcome, Stop};
 use cc_base::{Ending, Files, Kind, Limits, List, LoadFault, Span, StoreFault, Text};
+use cc_core::Program;
 use cc_emit::emit;
+use cc_front::{SourceFault, typed_program};
 use cc_image::{ImageFault, read_image, write_image};
 use cc_listing::list;
 use cc_machine::Checked;
+use cc_mean::mean;
 use cc_module::Module;
 use cc_straight::CompileFault;
 use std::alloc::{AllocError, Global};
@@ -28,6 +34,12 @@ use std::alloc::{AllocError, Global};
 /// What an executed program may use.
 const LIMITS: Limits = Limits {
     frames: 4096,
+    cells: 8000000,
+};
+
+/// What the meaning of a program may use.
+const MEANING_LIMITS: Limits = Limits {
+    frames: 16,
     cells: 8000000,
 };
 
@@ -83,19 +95,19 @@ pub fn compile(alloc: Global, file: &str, bytes: &[u8]) -> Result<Checked, Stop>
     }
 }
 
-/// Checks the bytes of a file.
-pub fn check_source(alloc: Global, file: &str, bytes: &[u8]) -> Result<(), Stop>
+/// The typed program of the bytes of a file.
+pub fn type_source(alloc: Global, file: &str, bytes: &[u8]) -> Result<Program, Stop>
     requires { length bytes.now < 2 ^ 32 }
     ensures { MatchResult result
-        (λ _. (source : Source) × Reads bytes.now source)
-        (λ stop. IsStop stop (λ outcome. (kind : Kind) × (span : Span) × Refuses checking bytes.now kind span × (outcome ≡ stopped (Status.Refused kind span) file.now bytes.now))) }
+        (λ program. Types bytes.now program)
+        (λ stop. IsStop stop (λ outcome. (kind : Kind) × (span : Span) × front.Refuses bytes.now kind span × (outcome ≡ stopped (Status.Refused kind span) file.now bytes.now))) }
 {
-    match cc_straight::check(alloc, bytes) {
-        Ok(()) => Ok(()),
-        Err(CompileFault::Refused(kind, span)) => {
+    match typed_program(alloc, bytes) {
+        Ok(program) => Ok(program),
+        Err(SourceFault::Refused(kind, span)) => {
             Err(stop(alloc, Status::Refused(kind, span), file, bytes))
         }
-        Err(CompileFault::Memory) => Err(Stop::OutOfMemory),
+        Err(SourceFault::Memory) => Err(Stop::OutOfMemory),
     }
 }
 
@@ -124,6 +136,37 @@ pub fn execute(
 {
     let executed = cc_straight::execute(alloc, code, arguments, LIMITS, steps as u64)?;
     let status = status_of(executed.ending);
+    let note = note(alloc, &status, "", &[])?;
+    Ok(Outcome {
+        status,
+        output: executed.output,
+        note,
+    })
+}
+
+fn meant_status(end: Option<Ending>) -> Status
+    ensures { result ≡ meant_status end }
+{
+    match end {
+        Some(end) => status_of(Some(end)),
+        None => Status::Going,
+    }
+}
+
+/// Executes the meaning of a program with these arguments and without input, where each run of a loop makes at most
+/// `turns` turns.
+pub fn execute_meaning(
+    alloc: Global,
+    program: &Program,
+    arguments: &[Text],
+    turns: u32,
+) -> Result<Outcome, Stop>
+    requires count { length arguments.now < 2 ^ 32 }
+    requires texts { All (λ text. length text < 2 ^ 32) arguments.now }
+    ensures { IsEnd result (λ outcome. outcome ≡ meant (meaning_of program.now arguments.now turns)) }
+{
+    let executed = mean(alloc, program, &[], arguments, MEANING_LIMITS, turns)?;
+    let status = meant_status(executed.end);
     let note = note(alloc, &status, "", &[])?;
     Ok(Outcome {
         status,

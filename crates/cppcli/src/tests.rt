@@ -6,6 +6,17 @@ use std::test::Fail;
 
 const OVERFLOW: &str = "int main() { System::Console::WriteLine(2147483647 + 1); return 0; }";
 
+const RECURSION: &str =
+    "int f(int n) { return n == 0 ? 0 : f(n - 1); } int main() { return f(13); }";
+
+const DEEP: &str = "int f(int n) { return n == 0 ? 0 : f(n - 1); } int main() { return f(14); }";
+
+const ENDLESS: &str = "int main() { while (true) System::Console::Write('a'); }";
+
+const DIVIDES: &str = "int main() { return 1 / (1 - 1); }";
+
+const UNTYPED: &str = "int main() {\n  break; }";
+
 // Files that hold one file, `x.cpp`, and of which the call of this number fails, the first being 1.
 fn one_file(alloc: Global, source: &[u8], failing: u64) -> Result<MemoryFiles, AllocError> {
     let mut entries = List::new(alloc);
@@ -54,7 +65,7 @@ fn blanks(alloc: Global, length: usize) -> Result<Vec<u8>, AllocError> {
 }
 
 // The words, a source, and the status, output and note that they come to.
-const SOURCES: [(&str, &str, u8, &str, &str); 6] = [
+const SOURCES: [(&str, &str, u8, &str, &str); 12] = [
     ("run x.cpp", OVERFLOW, 0, "-2147483648\n", ""),
     (
         "run --steps=5 x.cpp -- a",
@@ -65,6 +76,30 @@ const SOURCES: [(&str, &str, u8, &str, &str); 6] = [
     ),
     ("check x.cpp", OVERFLOW, 0, "", ""),
     ("dump x.cpp", "MZ", 246, "", "x.cpp: bad image 90\n"),
+    ("mean x.cpp --turns 0", OVERFLOW, 0, "-2147483648\n", ""),
+    ("mean --turns=100 x.cpp -- a", RECURSION, 0, "", ""),
+    ("mean x.cpp --turns 100", DEEP, 250, "", "limit: depth\n"),
+    (
+        "mean x.cpp --turns 3",
+        ENDLESS,
+        253,
+        "aaa",
+        "limit: turns\n",
+    ),
+    (
+        "mean x.cpp --turns 0",
+        DIVIDES,
+        248,
+        "",
+        "unhandled System.DivideByZeroException: System.DivideByZeroException\n",
+    ),
+    (
+        "check x.cpp",
+        UNTYPED,
+        245,
+        "",
+        "x.cpp:2:3: error 55 BadBreak\n",
+    ),
     (
         "run x.cpp",
         "int main() { return (2 - 5) * 3; }",
@@ -101,6 +136,7 @@ fn words_and_faults_have_their_answers(rt: HostRuntime) -> Result<(), Fail> {
     let rows = [
         ("", 0, 240, "", usage),
         ("build x.cpp -- a", 0, 240, "", usage),
+        ("mean x.cpp", 0, 240, "", usage),
         ("run y.cpp", 0, 241, "", "y.cpp: absent\n"),
         ("check x.cpp", 1, 242, "", "read fault\n"),
         ("run x.cpp", 0, 243, "-2", ""),

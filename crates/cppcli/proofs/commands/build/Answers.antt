@@ -12,32 +12,32 @@ pub image_of-requires : goal.image_of-requires
 image_of-requires g c = code_within c.in_ok-code.code c.in_ok-code.ensures.0.0 (c.in_ok-code.ensures.1 c.in_ok-code.ensures.0.0 c.in_ok-code.ensures.0.1)
 
 pub returns-in_err-image-clause-outcome : goal.returns-in_err-image-clause-outcome
-returns-in_err-image-clause-outcome g c steps arguments = end_of_stop c.from_residual-in_err-image.result OutOfMemory _ c.from_residual-in_err-image.ensures.1 tt
+returns-in_err-image-clause-outcome g c bound arguments = end_of_stop c.from_residual-in_err-image.result OutOfMemory _ c.from_residual-in_err-image.ensures.1 tt
 
 pub returns-in_err-name-clause-outcome : goal.returns-in_err-name-clause-outcome
-returns-in_err-name-clause-outcome g c steps arguments = end_of_stop c.from_residual-in_err-name.result OutOfMemory _ c.from_residual-in_err-name.ensures.1 tt
+returns-in_err-name-clause-outcome g c bound arguments = end_of_stop c.from_residual-in_err-name.result OutOfMemory _ c.from_residual-in_err-name.ensures.1 tt
 
 pub returns-in_err-store-clause-outcome : goal.returns-in_err-store-clause-outcome
-returns-in_err-store-clause-outcome g c steps arguments =
+returns-in_err-store-clause-outcome g c bound arguments =
     let run : FilesRun = record { before = g.F.Files.state c.args.files.now; after = g.F.Files.state c.store.new.files; quiet = g.F.Files.quiet c.args.files.now } in
     let middle : FilesState = g.F.Files.state c.load.new.files in
     let compiled = rw c.deref.ensures.value at c.in_ok-code.ensures in
     let name_is : c.as_str.result.now ≡ image_name c.args.file.now = c.as_str.ensures.value ∙ c.in_ok-name.ensures in
     let failed = rw name_is at c.in_err-store.ensures.store in
-    let stopped = build_stopped run c.args.file.now steps arguments c.in_ok-bytes.bytes.items c.in_ok-code.code c.in_ok-image.image.items middle (g.F.Files.quiet c.load.new.files) c.in_ok-bytes.ensures.goes_on c.in_err-store.field-0.0
+    let stopped = build_stopped run c.args.file.now bound arguments c.in_ok-bytes.bytes.items c.in_ok-code.code c.in_ok-image.image.items middle (g.F.Files.quiet c.load.new.files) c.in_ok-bytes.ensures.goes_on c.in_err-store.field-0.0
     c.in_ok-bytes.ensures.load.0 c.in_ok-bytes.ensures.load.1 compiled c.in_ok-image.ensures c.in_ok-bytes.ensures.quiet failed in
     end_of_stop c.from_residual-in_err-store.result c.in_err-store.field-0.0 _ c.from_residual-in_err-store.ensures.1 stopped
 
 pub returns-clause-outcome : goal.returns-clause-outcome
-returns-clause-outcome g c steps arguments =
+returns-clause-outcome g c bound arguments =
     let run : FilesRun = record { before = g.F.Files.state c.args.files.now; after = g.F.Files.state c.store.new.files; quiet = g.F.Files.quiet c.args.files.now } in
     let middle : FilesState = g.F.Files.state c.load.new.files in
     let compiled = rw c.deref.ensures.value at c.in_ok-code.ensures in
     let name_is : c.as_str.result.now ≡ image_name c.args.file.now = c.as_str.ensures.value ∙ c.in_ok-name.ensures in
     let kept = rw (name_is, c.as_slice.ensures.value) at c.in_ok-store.ensures.store in
     let after = store_went run middle (g.F.Files.quiet c.load.new.files) c.in_ok-bytes.ensures.goes_on (image_name c.args.file.now) c.in_ok-image.image.items kept in
-    subst (λ outcome. IsOutcomeOf (record { command = Build; file = c.args.file.now; steps = steps; arguments = arguments }) run outcome) (sym c.done.ensures)
-    (build_outcome run c.args.file.now steps arguments c.in_ok-bytes.bytes.items c.in_ok-code.code c.in_ok-image.image.items done c.in_ok-bytes.ensures.load.0 c.in_ok-bytes.ensures.load.1 compiled c.in_ok-image.ensures after)
+    subst (λ outcome. IsOutcomeOf (record { command = Build; file = c.args.file.now; bound = bound; arguments = arguments }) run outcome) (sym c.done.ensures)
+    (build_outcome run c.args.file.now bound arguments c.in_ok-bytes.bytes.items c.in_ok-code.code c.in_ok-image.image.items done c.in_ok-bytes.ensures.load.0 c.in_ok-bytes.ensures.load.1 compiled c.in_ok-image.ensures after)
 
 pub returns-in_err-store-clause-kept : goal.returns-in_err-store-clause-kept
 returns-in_err-store-clause-kept g c not_done not_fault =

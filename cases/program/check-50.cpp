@@ -1,0 +1,2 @@
+void f() { }
+int main() { int a = f(); return 0; }

@@ -1,0 +1,1 @@
+void f(long long a) { } void f(unsigned a) { } int main() { f(1); return 0; }

@@ -1,0 +1,1 @@
+int f() { while (true) { break; } } int main() { return 0; }

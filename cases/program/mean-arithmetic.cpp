@@ -1,0 +1,1 @@
+int main() { int a = -2147483648; int b = -1; return a / b; }

@@ -1,0 +1,1 @@
+int f(int n) { return n == 0 ? 0 : f(n - 1); } int main() { return f(13); }

@@ -1,0 +1,1 @@
+int main() { System::Console::Write('b'); while (true) System::Console::Write('a'); }

@@ -1,0 +1,1 @@
+int main() { System::Console::WriteLine(1); return a; }

@@ -1,0 +1,1 @@
+int main() { System::Console::WriteLine(1); int z = 0; return 1 / z; }
