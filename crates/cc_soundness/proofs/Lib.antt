@@ -1,0 +1,11 @@
+pub mod Values
+pub mod Nesting
+pub mod Operators
+pub mod Matching
+pub mod Frames
+pub mod Steps
+pub mod Runs
+pub mod Environments
+pub mod Tables
+pub mod Bodies
+pub mod Modules
