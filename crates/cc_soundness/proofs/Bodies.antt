@@ -1,5 +1,5 @@
 -- A body that breaks no rule is typed by the table of the verifier's pass.
-use Rattle.std.proofs.Common.{◌≡◌, ◌≢◌, ℕ, zero, suc, ◌+◌, ◌-◌, ◌<◌, ◌≤◌, ◌/◌, ◌%◌, List, [], ◌∷◌, ◌++◌, length, drop, map, refl, sym, ap, ◌∙◌, subst, subst₂, arith, ◌⊎◌, inl, inr, length-append, length-drop, eq-eqb, eqb-true}
+use Rattle.std.proofs.Common.{◌≡◌, ◌≢◌, ℕ, ◌+◌, ◌-◌, ◌<◌, ◌/◌, ◌%◌, List, [], ◌∷◌, length, refl, sym, ap, ◌∙◌, subst, arith, length-append, length-drop, eq-eqb, eqb-true}
 use Rattle.std.specs.Prelude.{Bool, true, false, not, ◌&&◌, ◌||◌, ◌==◌, Option, Some, None, nat_lt, if◌then◌else◌}
 use Rattle.std.proofs.lemmas.Bool.{and_parts, or_left, or_right}
 use Rattle.std.proofs.lemmas.Option.{same_Some}
@@ -18,21 +18,18 @@ use Rattle.cc_execution.specs.Loaded.{Decodes as Executes, ends, goes as execute
 use Rattle.cc_execution.specs.Operations.{Names, names_in, resolve}
 use Rattle.cc_execution.specs.Step.{placed_at}
 use Rattle.cc_verify.specs.declared.environment.Environment.{Environment}
-use Rattle.cc_verify.specs.declared.environment.Frame.{Frame}
 use Rattle.cc_verify.specs.declared.method.Method.{Method as VerifiedMethod}
 use Rattle.cc_verify.specs.declared.places.Place.{Place}
 use Rattle.cc_verify.specs.declared.places.Broken.{Broken}
-use Rattle.cc_verify.specs.declared.stack_type.StackType.TheVariants.{Object}
 use Rattle.cc_verify.specs.declared.transition.Transition.{Transition}
-use Rattle.cc_verify.specs.Transitions.{Stack, transition_of, effect, stores_fit, falls, jump, is_leave}
-use Rattle.cc_verify.specs.Regions.{is_catch, may_pass, may_exit, handles_not, each_clause, in_handler, innermost_handler}
+use Rattle.cc_verify.specs.Transitions.{Stack, transition_of, jump}
+use Rattle.cc_verify.specs.Regions.{is_catch, may_pass, handles_not, each_clause, in_handler}
 use Rattle.cc_verify.specs.Places.{Decodes, stops, goes, starts_at}
-use Rattle.cc_verify.specs.Rules.{Given, given_to, caught, class_of, entry_of, entries, arrival, stack_here, has_edges, is_start, may_begin, may_protect, may_fall, may_jump, may_end, keeps_regions, stands, ClauseVerdict, CodeVerdict, Verdict, of_clauses, of_nothing, of_code, method_with}
+use Rattle.cc_verify.specs.Rules.{Given, given_to, caught, class_of, entry_of, entries, arrival, has_edges, may_begin, may_protect, may_fall, may_jump, may_end, keeps_regions, stands, ClauseVerdict, CodeVerdict, Verdict, of_clauses, of_nothing, of_code, method_with}
 use Rattle.cc_soundness.specs.Kinds.{frame_kinds}
-use Rattle.cc_soundness.specs.Regions.{Nested, EachClause}
-use Rattle.cc_soundness.specs.Typed.{Has, Passes, Jumps, KeepsRulesAt, BeginsHandler, IsTyped}
+use Rattle.cc_soundness.specs.Regions.{EachClause}
+use Rattle.cc_soundness.specs.Typed.{Has, KeepsRulesAt, BeginsHandler, IsTyped}
 use Rattle.cc_soundness.proofs.Nesting.{each_is, each_then, each_both}
-use Rattle.cc_soundness.proofs.Matching.{none_some}
 use Rattle.cc_soundness.proofs.Tables.{some_none, to_front, AllStart, all_start_append, starts_given, Kept, AllPlaces, Chained, chained, FirstHas, Found, pass_finds, ClausesFound, clauses_found, entries_are, none_at_zero}
 
 -- ---- the same code, read twice

@@ -1,8 +1,8 @@
 -- What the verifier knows of the methods and variables of a module is what they are in its executable.
-use Rattle.std.proofs.Common.{◌≡◌, ℕ, zero, suc, ◌+◌, ◌<◌, List, [], ◌∷◌, ◌++◌, length, map, refl, sym, ap, ◌∙◌, subst, arith, ◌⊎◌, inl, inr}
+use Rattle.std.proofs.Common.{◌≡◌, ℕ, zero, suc, List, [], ◌∷◌, map, refl, sym, ap, ◌∙◌}
 use Rattle.std.specs.Prelude.{Bool, true, false, ◌==◌, Option, Some, None, option_map, slice_get, codes, if◌then◌else◌}
 use Rattle.std.specs.Str.{bytes_eq}
-use Rattle.std.proofs.lemmas.Option.{same_Some, slice_get-map}
+use Rattle.std.proofs.lemmas.Option.{same_Some}
 use Rattle.cc_cil.specs.declared.body.Body.{Body}
 use Rattle.cc_core.specs.declared.library_call.LibraryCall.{LibraryCall}
 use Rattle.cc_core.specs.declared.library_call.LibraryCall.TheVariants.{Write, WriteLine, WriteEmptyLine}
@@ -28,13 +28,11 @@ use Rattle.cc_execution.specs.Loaded.{Rows, parameters_in, result_in, locals_in,
 use Rattle.cc_execution.specs.Step as step
 use Rattle.cc_verify.specs.declared.stack_type.StackType.{StackType}
 use Rattle.cc_verify.specs.declared.environment.MethodType.{MethodType}
-use Rattle.cc_verify.specs.declared.environment.Environment.{Environment}
 use Rattle.cc_verify.specs.declared.readings.Readings.{Readings}
-use Rattle.cc_verify.specs.Library.{only}
-use Rattle.cc_verify.specs.Types.{stack_type, stack_type_of, value_type, IsReading, Zip, AreReadings, value_types, no_method, type_of_signature, method_type, with_some, some_types, locals_of_signature, local_types, environment_of}
+use Rattle.cc_verify.specs.Types.{stack_type, value_type, IsReading, Zip, AreReadings, value_types, type_of_signature, method_type, with_some, some_types, locals_of_signature, local_types, environment_of}
 use Rattle.cc_verify.specs.Transitions as rules
-use Rattle.cc_verify.specs.Verified.{locals_named, some_locals, frame_of}
-use Rattle.cc_soundness.specs.Kinds.{kind, kinds, method_kinds, member_kinds, frame_kinds, IsEnvironment}
+use Rattle.cc_verify.specs.Verified.{locals_named, some_locals}
+use Rattle.cc_soundness.specs.Kinds.{kind, kinds, method_kinds, member_kinds, IsEnvironment}
 use Rattle.cc_soundness.proofs.Matching.{none_some}
 
 -- ---- types

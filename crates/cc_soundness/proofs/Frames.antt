@@ -1,5 +1,5 @@
 -- Frames, exceptions and leaves go well.
-use Rattle.std.proofs.Common.{◌≡◌, ℕ, zero, suc, ◌+◌, ◌-◌, ◌<◌, ◌≤◌, List, [], ◌∷◌, ◌++◌, length, take, map, refl, sym, ap, ◌∙◌, subst, arith, ◌⊎◌, inl, inr, append_assoc, length-append}
+use Rattle.std.proofs.Common.{◌≡◌, ℕ, zero, suc, ◌-◌, ◌<◌, ◌≤◌, List, [], ◌∷◌, ◌++◌, length, take, map, refl, sym, ap, ◌∙◌, subst, arith, append_assoc, length-append}
 use Rattle.std.specs.Prelude.{Bool, true, false, not, Option, Some, None, nat_lt, slice_get, if◌then◌else◌}
 use Rattle.cc_base.specs.declared.identifiers.ClassId.{ClassId}
 use Rattle.cc_base.specs.declared.running.Ending.TheVariants as ending
@@ -17,8 +17,8 @@ use Rattle.cc_execution.specs.declared.operation.FundamentalType.{FundamentalTyp
 use Rattle.cc_execution.specs.declared.executable.Executable.{Executable}
 use Rattle.cc_execution.specs.declared.executable.Method.{Method}
 use Rattle.cc_execution.specs.Library.{LIBRARY_CLASSES}
-use Rattle.cc_execution.specs.Links.{Link, Protected, Handling, chain, left_for}
-use Rattle.cc_execution.specs.State.{Pending, Unwinding, Leaving, Caught, Frame, State, Next, Goes, Ends, Stuck}
+use Rattle.cc_execution.specs.Links.{Protected, Handling, chain, left_for}
+use Rattle.cc_execution.specs.State.{Pending, Unwinding, Leaving, Caught, Frame, State, Next, Ends}
 use Rattle.cc_execution.specs.Handlers.{aborts, uncaught, aborted, matches, catches, callers_catch, clauses_at, chain_at, go_on, outer, unwind_at, unwind, unwind_callers, raise, throw, throw_made, with_world, leave_at, go_out, leave, end_handler, rethrow}
 use Rattle.cc_verify.specs.declared.environment.Environment.{Environment}
 use Rattle.cc_verify.specs.declared.stack_type.StackType.TheVariants as type
@@ -28,9 +28,9 @@ use Rattle.cc_verify.specs.Rules.{Given}
 use Rattle.cc_soundness.specs.Kinds.{kind}
 use Rattle.cc_soundness.specs.Regions.{handling, Nested, enters_not, EachClause}
 use Rattle.cc_soundness.specs.Typed.{Has, BeginsHandler, IsTyped, KeepsRules}
-use Rattle.cc_soundness.specs.States.{HasType, HaveTypes, IsException, AreExceptions, RunsFor, RunFor, IsFrame, Wait, variable_types, GoesWell}
+use Rattle.cc_soundness.specs.States.{HaveTypes, IsException, AreExceptions, RunsFor, RunFor, IsFrame, Wait, variable_types, GoesWell}
 use Rattle.cc_soundness.proofs.Values.{types_grow}
-use Rattle.cc_soundness.proofs.Nesting.{iff_same, implied, clash, not_both, each_back, each_append, handling_append, handling_none, handling_same, nested_at, after_try, after_handler, enters_from, leaves_by, goes_on_by, each_is, is_each}
+use Rattle.cc_soundness.proofs.Nesting.{implied, clash, not_both, each_back, each_append, handling_append, handling_none, handling_same, nested_at, after_try, after_handler, enters_from, leaves_by, goes_on_by, each_is}
 
 -- ---- lists
 

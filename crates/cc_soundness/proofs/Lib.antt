@@ -9,3 +9,6 @@ pub mod Environments
 pub mod Tables
 pub mod Bodies
 pub mod Modules
+pub mod Resolving
+pub mod Loads
+pub mod Executables

@@ -1,6 +1,6 @@
 -- Which operations are those of which transitions: the verifier's table of instructions and the machine's agree.
-use Rattle.std.proofs.Common.{◌≡◌, ℕ, zero, suc, ◌+◌, List, [], ◌∷◌, refl, sym, ap, ◌∙◌, subst}
-use Rattle.std.specs.Prelude.{Bool, true, false, ◌/◌, ◌%◌, ◌^◌, ℤ, Option, Some, None, ◌==◌}
+use Rattle.std.proofs.Common.{◌≡◌, ℕ, refl}
+use Rattle.std.specs.Prelude.{Bool, true, false, Some, None}
 use Rattle.std.specs.Int.{w32, w64, cast_unsigned}
 use Rattle.cc_cil.specs.declared.instruction.Instruction.{Instruction}
 use Rattle.cc_cil.specs.declared.instruction.Instruction.TheVariants as the
@@ -14,7 +14,6 @@ use Rattle.cc_execution.specs.declared.operation.FundamentalType.TheVariants as 
 use Rattle.cc_execution.specs.declared.operation.Operation.{Operation}
 use Rattle.cc_execution.specs.declared.operation.Operation.TheVariants as does
 use Rattle.cc_execution.specs.Operations.{Names, argument, local, load, store, call, branch, branch_if, branch_compare, leave, resolve}
-use Rattle.cc_verify.specs.declared.stack_type.StackType.{StackType}
 use Rattle.cc_verify.specs.declared.stack_type.StackType.TheVariants.{Int32, Int64, Null, Object}
 use Rattle.cc_verify.specs.declared.transition.Transition.{Transition}
 use Rattle.cc_verify.specs.declared.transition.Transition.TheVariants as to

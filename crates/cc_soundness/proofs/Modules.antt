@@ -1,5 +1,5 @@
 -- A verified module keeps the rules as an executable, with the tables of the verifier's pass.
-use Rattle.std.proofs.Common.{◌≡◌, ◌≢◌, ℕ, zero, suc, ◌+◌, ◌-◌, ◌<◌, ◌≤◌, ◌%◌, ◌^◌, List, [], ◌∷◌, ◌++◌, length, map, refl, sym, ap, ◌∙◌, subst, arith}
+use Rattle.std.proofs.Common.{◌≡◌, ◌≢◌, ℕ, zero, suc, ◌+◌, ◌<◌, List, [], ◌∷◌, ◌++◌, length, map, refl, sym, ap, ◌∙◌, subst, arith}
 use Rattle.std.specs.Prelude.{Bool, true, false, ◌&&◌, ◌==◌, Option, Some, None, option_map, slice_get, if◌then◌else◌}
 use Rattle.std.proofs.lemmas.Bool.{and_parts}
 use Rattle.std.proofs.lemmas.Option.{same_Some, slice_get_within, slice_get-map}
@@ -17,7 +17,7 @@ use Rattle.cc_module.specs.declared.rows.MethodDefRow.{MethodDefRow}
 use Rattle.cc_module.specs.declared.rows.TypeRefRow.{TypeRefRow}
 use Rattle.cc_module.specs.declared.module.Module.{Module}
 use Rattle.cc_module.specs.declared.table.Table.TheVariants as table
-use Rattle.cc_module.specs.Methods.{NamesMethod, body_of}
+use Rattle.cc_module.specs.Methods.{body_of}
 use Rattle.cc_module.specs.Rows.{row_count}
 use Rattle.cc_module.specs.Signatures.{OneSignature}
 use Rattle.cc_execution.specs.declared.operation.FundamentalType.{FundamentalType}
@@ -35,17 +35,14 @@ use Rattle.cc_verify.specs.declared.check.Check.TheVariants as check
 use Rattle.cc_verify.specs.declared.check.ClassRule.{ClassRule}
 use Rattle.cc_verify.specs.declared.environment.MethodType.{MethodType}
 use Rattle.cc_verify.specs.declared.environment.Environment.{Environment}
-use Rattle.cc_verify.specs.declared.environment.Frame.{Frame}
 use Rattle.cc_verify.specs.declared.fault.VerifyFault.{VerifyFault}
 use Rattle.cc_verify.specs.declared.places.Broken.{Broken}
 use Rattle.cc_verify.specs.declared.readings.Readings.{Readings}
-use Rattle.cc_verify.specs.Library.{only, is_one}
-use Rattle.cc_verify.specs.Regions.{is_catch}
-use Rattle.cc_verify.specs.Rules.{Given, class_of, own_class, MethodVerdict}
+use Rattle.cc_verify.specs.Rules.{Given, own_class, MethodVerdict}
 use Rattle.cc_verify.specs.Transitions.{table_of, row_of, at_row}
-use Rattle.cc_verify.specs.Types.{IsReading, Zip, AreReadings, class_or_object, is_text_array, method_type, environment_of}
+use Rattle.cc_verify.specs.Types.{IsReading, Zip, AreReadings, class_or_object, is_text_array, environment_of}
 use Rattle.cc_verify.specs.ClassRules.{first_bad_from, first_bad, if_read, is_there, is_read, row_has, has_parameters, takes_no_void, names_type, names_caught, name_caught, body_at, body_names, names_all, has_body, is_i4, is_int, takes_texts, is_entry, names_entry, keeps, tested, row_rules, body_rules, or, under, broken_rule, first_broken, bad_entry, first_class_fault}
-use Rattle.cc_verify.specs.Verified.{locals_named, some_locals, frame_of, BodyVerdict, CodesVerdict, all, broken, kept, Faults, of_class, of_fault, of_none, FirstFault, IsVerified}
+use Rattle.cc_verify.specs.Verified.{frame_of, BodyVerdict, CodesVerdict, all, broken, kept, Faults, of_class, of_fault, of_none, IsVerified}
 use Rattle.cc_soundness.specs.Kinds.{kind, kinds, method_kinds, frame_kinds, IsEnvironment}
 use Rattle.cc_soundness.specs.Regions.{EachClause}
 use Rattle.cc_soundness.specs.Typed.{IsTyped, HasEntry, KeepsRules}

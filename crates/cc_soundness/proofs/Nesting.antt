@@ -1,9 +1,9 @@
 -- How the handlers around an offset follow from how clauses nest.
-use Rattle.std.proofs.Common.{◌≡◌, ℕ, zero, suc, ◌+◌, ◌<◌, ◌≤◌, List, [], ◌∷◌, ◌++◌, length, refl, sym, ap, ◌∙◌, subst, arith, ◌⊎◌, inl, inr, ⊎_elim, leb-true, ltb-true, eqb-true, le-leb, lt-ltb, eq-eqb}
-use Rattle.std.specs.Prelude.{Bool, true, false, not, ◌&&◌, ◌||◌, ◌==◌, nat_le, nat_lt, nat_eq, if◌then◌else◌}
+use Rattle.std.proofs.Common.{◌≡◌, ℕ, ◌<◌, ◌≤◌, List, [], ◌∷◌, ◌++◌, refl, sym, ap, ◌∙◌, arith, ◌⊎◌, inl, inr, ⊎_elim, leb-true, ltb-true, eqb-true, le-leb, lt-ltb, eq-eqb}
+use Rattle.std.specs.Prelude.{Bool, true, false, not, ◌||◌, ◌==◌, nat_le, nat_eq, if◌then◌else◌}
 use Rattle.std.proofs.lemmas.Bool.{and_parts, and_from, or_cases, false_from_ne_true}
 use Rattle.cc_cil.specs.declared.body.Clause.{Clause}
-use Rattle.cc_verify.specs.Regions.{try_past, handler_past, in_range, in_try, in_handler, are_apart, is_within, is_clause, is_outside, stand_apart, share_try, lies_in, nests, may_enter, may_stay, may_leave, may_pass, may_exit, handles_not, each_clause}
+use Rattle.cc_verify.specs.Regions.{try_past, handler_past, in_range, in_try, in_handler, are_apart, is_within, is_clause, stand_apart, share_try, lies_in, nests, may_enter, may_stay, may_leave, may_pass, may_exit, handles_not, each_clause}
 use Rattle.cc_soundness.specs.Regions.{handling, Nested, enters_not, EachClause}
 
 -- ---- tests

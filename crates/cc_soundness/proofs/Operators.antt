@@ -1,8 +1,6 @@
 -- What operators make of values of types that they are allowed.
-use Rattle.std.proofs.Common.{◌≡◌, ℕ, zero, suc, ◌+◌, ◌<◌, List, refl, sym, ap, ◌∙◌, subst, arith, ◌⊎◌, inl, inr, ⊎_elim}
-use Rattle.std.specs.Prelude.{Bool, true, false, not, ◌&&◌, Option, Some, None, nat_eq, nat_lt, if◌then◌else◌}
-use Rattle.std.proofs.lemmas.Bool.{and_parts}
-use Rattle.cc_base.specs.declared.identifiers.ClassId.{ClassId}
+use Rattle.std.proofs.Common.{◌≡◌, ℕ, ◌<◌, refl, sym, ap, subst, arith, ◌⊎◌, inl, inr}
+use Rattle.std.specs.Prelude.{Bool, true, false, Some, None, nat_eq, if◌then◌else◌}
 use Rattle.cc_core.specs.declared.state.Computed.{Computed}
 use Rattle.cc_core.specs.declared.state.Computed.TheVariants.{Gives, Throws}
 use Rattle.cc_core.specs.declared.types.Operator.{Operator}
@@ -13,15 +11,15 @@ use Rattle.cc_core.specs.declared.world.Value.{Value}
 use Rattle.cc_core.specs.declared.world.Value.TheVariants as value
 use Rattle.cc_core.specs.Numbers.{number, divided, overflows, quotient, remainder, DivideByZero, Arithmetic, compute, is_shift, computed_alone, compute_alone}
 use Rattle.cc_execution.specs.Library.{LIBRARY_CLASSES}
-use Rattle.cc_execution.specs.Numbers.{is_same, compared, operated, conversion}
+use Rattle.cc_execution.specs.Numbers.{compared, operated, conversion}
 use Rattle.cc_execution.specs.declared.operation.FundamentalType.{FundamentalType}
 use Rattle.cc_execution.specs.declared.operation.FundamentalType.TheVariants.{Boolean, Char, I1, U1, I2, U2, I4, U4, I8, U8}
 use Rattle.cc_verify.specs.declared.stack_type.StackType.{StackType}
 use Rattle.cc_verify.specs.declared.stack_type.StackType.TheVariants.{Int32, Int64, Null, Object}
-use Rattle.cc_verify.specs.Transitions.{is_integer, is_reference, same_integer, may_equal, may_shift}
+use Rattle.cc_verify.specs.Transitions.{is_integer, same_integer, may_equal, may_shift}
 use Rattle.cc_soundness.specs.Kinds.{kind}
 use Rattle.cc_soundness.specs.States.{HasType}
-use Rattle.cc_soundness.proofs.Values.{int32_is, int64_is, reference_is, same_is}
+use Rattle.cc_soundness.proofs.Values.{int32_is, int64_is, reference_is}
 
 -- ---- which operators compare, and which make a number of their operands' type
 

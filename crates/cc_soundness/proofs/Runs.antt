@@ -1,12 +1,11 @@
 -- Starts, steps and runs go well.
-use Rattle.std.proofs.Common.{◌≡◌, ◌≢◌, ℕ, zero, suc, ◌+◌, ◌-◌, ◌<◌, ◌≤◌, List, [], ◌∷◌, ◌++◌, length, map, refl, sym, ap, ◌∙◌, subst, arith}
-use Rattle.std.specs.Prelude.{Bool, true, false, Option, Some, None, nat_lt, slice_get, if◌then◌else◌}
+use Rattle.std.proofs.Common.{◌≡◌, ◌≢◌, ℕ, zero, suc, ◌-◌, ◌≤◌, List, [], ◌∷◌, ◌++◌, length, map, refl, sym, ap, ◌∙◌, subst, arith}
+use Rattle.std.specs.Prelude.{Some, nat_lt, slice_get}
 use Rattle.std.proofs.lemmas.Option.{same_Some}
 use Rattle.cc_base.specs.Cells.{arguments_cells, arguments_pass}
 use Rattle.cc_base.specs.declared.running.Ending.TheVariants as ending
 use Rattle.cc_base.specs.declared.running.Limits.{Limits}
-use Rattle.cc_core.specs.declared.world.World.{World}
-use Rattle.cc_core.specs.SourceRun.{Finish, ended, going, wrong}
+use Rattle.cc_core.specs.SourceRun.{ended, going, wrong}
 use Rattle.cc_execution.specs.declared.operation.FundamentalType.{FundamentalType}
 use Rattle.cc_execution.specs.declared.executable.Executable.{Executable}
 use Rattle.cc_execution.specs.declared.executable.Method.{Method}
@@ -18,7 +17,6 @@ use Rattle.cc_verify.specs.declared.environment.Environment.{Environment}
 use Rattle.cc_verify.specs.Transitions.{transition_of}
 use Rattle.cc_verify.specs.Rules.{Given}
 use Rattle.cc_soundness.specs.Kinds.{kind}
-use Rattle.cc_soundness.specs.Regions.{handling}
 use Rattle.cc_soundness.specs.Typed.{KeepsRules}
 use Rattle.cc_soundness.specs.States.{HaveTypes, RunFor, IsTypedState, GoesWell}
 use Rattle.cc_soundness.proofs.Values.{types_length, zeros_are}

@@ -1,12 +1,10 @@
 -- Each operation goes well where its instruction keeps the rules.
-use Rattle.std.proofs.Common.{◌≡◌, ℕ, zero, suc, ◌+◌, ◌-◌, ◌<◌, ◌≤◌, List, [], ◌∷◌, ◌++◌, length, map, reverse, refl, sym, ap, ◌∙◌, subst, arith, ◌⊎◌, inl, inr, length-append, lt-ltb, append-nil}
-use Rattle.std.specs.Prelude.{Bool, true, false, not, ◌==◌, ℤ, pos, negsuc, ◌+ℤ◌, Option, Some, None, option_map, nat_eq, nat_lt, slice_get, slice_set, if◌then◌else◌}
+use Rattle.std.proofs.Common.{◌≡◌, ℕ, zero, suc, ◌+◌, ◌<◌, List, [], ◌∷◌, ◌++◌, length, map, reverse, refl, sym, ap, ◌∙◌, subst, arith, ◌⊎◌, inl, inr, lt-ltb, append-nil}
+use Rattle.std.specs.Prelude.{Bool, true, false, ◌==◌, ℤ, pos, negsuc, ◌+ℤ◌, Option, Some, None, option_map, nat_lt, slice_get, if◌then◌else◌}
 use Rattle.std.proofs.lemmas.List.{length-map, length-reverse, map-append, reverse-append, reverse-reverse}
 use Rattle.std.proofs.lemmas.Option.{same_Some, slice_get_within, slice_get-map}
 use Rattle.cc_base.specs.declared.identifiers.ClassId.{ClassId}
 use Rattle.cc_base.specs.declared.running.Ending.TheVariants as ending
-use Rattle.cc_cil.specs.declared.body.ClauseKind.{ClauseKind}
-use Rattle.cc_cil.specs.declared.body.Clause.{Clause}
 use Rattle.cc_core.specs.declared.library_call.LibraryCall.{LibraryCall}
 use Rattle.cc_core.specs.declared.library_call.LibraryCall.TheVariants.{Write, WriteLine, WriteEmptyLine}
 use Rattle.cc_core.specs.declared.library_call.Printed.{Printed}
@@ -31,14 +29,12 @@ use Rattle.cc_execution.specs.declared.executable.Method.{Method}
 use Rattle.cc_execution.specs.declared.executable.PlacedOperation.{PlacedOperation}
 use Rattle.cc_execution.specs.Fundamental.{stored, stored_each}
 use Rattle.cc_execution.specs.Library.{LIBRARY_CLASSES, NULL_REFERENCE}
-use Rattle.cc_execution.specs.Operations.{Names, names_in, loaded, argument_from, argument, local, load, store, at_row, row_of, table_of, are_loaded, call_method, call_defined, natural, target, branch, branch_if, branch_compare, leave}
-use Rattle.cc_execution.specs.Operations as operations
+use Rattle.cc_execution.specs.Operations.{Names, names_in, loaded, argument_from, argument, local, load, store, at_row, row_of, table_of, are_loaded, call_method, call_defined, natural, target}
 use Rattle.cc_execution.specs.Numbers.{operated, conversion}
-use Rattle.cc_execution.specs.State.{Pending, Frame, State, Next, Goes, Ends, Stuck}
+use Rattle.cc_execution.specs.State.{Frame, State, Next, Ends, Stuck}
 use Rattle.cc_execution.specs.Handlers.{go_on, throw_made}
 use Rattle.cc_execution.specs.Step.{given, popping, popping_two, popping_each, goes_to, on_computed, branch_on, is_truth, throw_value, printed_type, print, print_value, call_library, zeros_of, enter, return_last, placed_at, operations_of, placed_in, return_to, return_result, act}
 use Rattle.cc_execution.specs.Step as machine
-use Rattle.cc_verify.specs.declared.environment.MethodType.{MethodType}
 use Rattle.cc_verify.specs.declared.environment.Environment.{Environment}
 use Rattle.cc_verify.specs.declared.stack_type.StackType.{StackType}
 use Rattle.cc_verify.specs.declared.stack_type.StackType.TheVariants.{Int32, Int64, Null, Object}
@@ -46,15 +42,15 @@ use Rattle.cc_verify.specs.declared.transition.Transition.{Transition}
 use Rattle.cc_verify.specs.declared.transition.Transition.TheVariants as to
 use Rattle.cc_verify.specs.Transitions.{Stack, fits, same_integer, may_equal, may_shift, is_integer, is_thrown, push_variable, store_variable, store_local, push_local, push_result, pop_arguments, pop_one, duplicate, one_for, two_for, put_same, put_nothing, put_int32, empty_stack, effect, local_fits, stores_fit, falls, jump, is_leave, method_of}
 use Rattle.cc_verify.specs.Transitions as rules
-use Rattle.cc_verify.specs.Regions.{each_clause, innermost_handler, may_pass, may_exit}
+use Rattle.cc_verify.specs.Regions.{innermost_handler}
 use Rattle.cc_verify.specs.Rules.{Given, stands}
 use Rattle.cc_soundness.specs.Kinds.{kind, kinds, method_kinds, member_kinds, frame_kinds}
 use Rattle.cc_soundness.specs.Regions.{handling}
-use Rattle.cc_soundness.specs.Typed.{Has, Passes, Jumps, KeepsRulesAt, IsTyped, KeepsRules}
-use Rattle.cc_soundness.specs.States.{HasType, HaveTypes, RunFor, Wait, with_result, variable_types, GoesWell}
-use Rattle.cc_soundness.proofs.Values.{types_grow, types_append, types_length, type_at, types_set, int32_is, int64_is, reference_is, fits_is, zeros_are, stored_is, stored_are}
+use Rattle.cc_soundness.specs.Typed.{Has, Passes, Jumps, KeepsRules}
+use Rattle.cc_soundness.specs.States.{HasType, HaveTypes, RunFor, with_result, variable_types, GoesWell}
+use Rattle.cc_soundness.proofs.Values.{types_append, types_length, type_at, types_set, int32_is, int64_is, reference_is, fits_is, zeros_are, stored_is, stored_are}
 use Rattle.cc_soundness.proofs.Nesting.{passing, exiting, beginning}
-use Rattle.cc_soundness.proofs.Operators.{Makes, Operated, is_equality, is_comparison, is_arithmetic, is_negation, binary_ok, order_ok, shift_ok, equal_ok, alone_ok, converts, equality_compares}
+use Rattle.cc_soundness.proofs.Operators.{Makes, Operated, is_negation, binary_ok, order_ok, shift_ok, equal_ok, alone_ok, converts}
 use Rattle.cc_soundness.proofs.Matching.{Matches, none_some}
 use Rattle.cc_soundness.proofs.Frames.{Held, go_ok, left_held, throws, leaves, handler_ends, throws_again, throws_made}
 

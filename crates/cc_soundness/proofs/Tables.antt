@@ -1,24 +1,19 @@
 -- What the verifier's pass finds, as a table with which each place keeps the rules.
-use Rattle.std.proofs.Common.{◌≡◌, ◌≢◌, ℕ, zero, suc, ◌+◌, ◌-◌, ◌<◌, ◌≤◌, List, [], ◌∷◌, ◌++◌, length, refl, sym, ap, ◌∙◌, subst, arith, ◌⊎◌, inl, inr, ⊎_elim, append_assoc, append-nil, eq-eqb, eqb-true, leb-true}
-use Rattle.std.specs.Prelude.{Bool, true, false, not, ◌&&◌, ◌||◌, ◌==◌, ℤ, Option, Some, None, nat_eq, nat_le, if◌then◌else◌}
+use Rattle.std.proofs.Common.{◌≡◌, ℕ, zero, suc, ◌<◌, ◌≤◌, List, [], ◌∷◌, ◌++◌, length, refl, sym, ap, ◌∙◌, subst, arith, ⊎_elim, append_assoc, append-nil, eq-eqb, eqb-true, leb-true}
+use Rattle.std.specs.Prelude.{Bool, true, false, not, ◌&&◌, ◌==◌, ℤ, Option, Some, None, if◌then◌else◌}
 use Rattle.std.proofs.lemmas.Bool.{and_parts, cases_eq, cases_lt}
-use Rattle.std.proofs.lemmas.Option.{same_Some}
-use Rattle.cc_cil.specs.declared.body.ClauseKind.{ClauseKind}
-use Rattle.cc_cil.specs.declared.body.ClauseKind.TheVariants.{Catch, Finally, Fault}
 use Rattle.cc_cil.specs.declared.body.Clause.{Clause}
-use Rattle.cc_cil.specs.declared.instruction.Instruction.{Instruction}
-use Rattle.cc_cil.specs.Instructions.{spelling}
 use Rattle.cc_verify.specs.declared.environment.Environment.{Environment}
 use Rattle.cc_verify.specs.declared.method.Method.{Method}
 use Rattle.cc_verify.specs.declared.places.Place.{Place}
 use Rattle.cc_verify.specs.declared.places.Broken.{Broken}
 use Rattle.cc_verify.specs.declared.transition.Transition.{Transition}
-use Rattle.cc_verify.specs.Transitions.{Stack, transition_of, is_built, takes, gives, effect, stores_fit, falls, branches, branch_offset, is_some_offset, jump, target}
-use Rattle.cc_verify.specs.Regions.{is_clause, nests, each_clause, in_handler, handles_not, innermost_handler}
+use Rattle.cc_verify.specs.Transitions.{Stack, transition_of, is_built, effect, stores_fit, falls, branch_offset, is_some_offset, jump, target}
+use Rattle.cc_verify.specs.Regions.{nests, each_clause, in_handler, innermost_handler}
 use Rattle.cc_verify.specs.Places.{Decodes, stops, goes, starts_at}
-use Rattle.cc_verify.specs.Rules.{Before, Keeps, Given, given_to, Agrees, Meets, arrival, Here, behind, jump_at, is_start, is_aimed, starts_target, has_room, Brings, runs_out, keeps_regions, stands, given_here, target_has, brought, stack_here, here, given_behind, fallen_behind, has_edges, is_nested, entry_of, entries, ClauseVerdict, all_nest, no_edge, not_nested, nested, CodeVerdict, all_keep, no_start, not_met, breaks, keeps}
+use Rattle.cc_verify.specs.Rules.{Before, Keeps, Given, given_to, Agrees, Meets, arrival, Here, behind, jump_at, is_aimed, starts_target, Brings, runs_out, keeps_regions, stands, given_here, target_has, brought, stack_here, here, given_behind, fallen_behind, has_edges, entry_of, entries, ClauseVerdict, all_nest, no_edge, not_nested, nested, CodeVerdict, all_keep, no_start, not_met, breaks, keeps}
 use Rattle.cc_soundness.specs.Regions.{Nested, EachClause}
-use Rattle.cc_soundness.proofs.Nesting.{clash, each_is, is_each, each_both, at_start}
+use Rattle.cc_soundness.proofs.Nesting.{clash, each_is, is_each, at_start}
 use Rattle.cc_soundness.proofs.Matching.{none_some}
 
 pub some_none : {A B : Type 0} (a : A) → Some a ≡ None → B

@@ -1,6 +1,6 @@
 -- Values of the types that the verifier knows.
-use Rattle.std.proofs.Common.{◌≡◌, ℕ, zero, suc, ◌+◌, ◌<◌, ◌≤◌, List, [], ◌∷◌, ◌++◌, length, map, refl, sym, ap, ◌∙◌, subst, arith, ◌⊎◌, inl, inr}
-use Rattle.std.specs.Prelude.{Bool, true, false, Option, Some, None, slice_get, slice_set}
+use Rattle.std.proofs.Common.{◌≡◌, ℕ, zero, suc, ◌<◌, ◌≤◌, List, [], ◌∷◌, ◌++◌, length, map, refl, sym, ap, ◌∙◌, subst, arith, ◌⊎◌, inl, inr}
+use Rattle.std.specs.Prelude.{true, Some, slice_get, slice_set}
 use Rattle.std.proofs.lemmas.Option.{same_Some}
 use Rattle.cc_core.specs.declared.world.Value.{Value}
 use Rattle.cc_core.specs.declared.world.Value.TheVariants as value

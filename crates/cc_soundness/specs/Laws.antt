@@ -4,9 +4,9 @@ use Rattle.cc_base.specs.declared.running.Limits.{Limits}
 use Rattle.cc_core.specs.SourceRun.{wrong}
 use Rattle.cc_execution.specs.declared.executable.Executable.{Executable}
 use Rattle.cc_execution.specs.declared.executable.Method.{Method}
-use Rattle.cc_execution.specs.State.{State, then_go}
+use Rattle.cc_execution.specs.State.{State}
 use Rattle.cc_execution.specs.Step.{step}
-use Rattle.cc_execution.specs.Run.{start, runs, run_of}
+use Rattle.cc_execution.specs.Run.{start, run_of}
 use Rattle.cc_module.specs.declared.module.Module.{Module}
 use Rattle.cc_execution.specs.Loaded.{IsLoaded}
 use Rattle.cc_verify.specs.declared.environment.Environment.{Environment}
@@ -39,3 +39,7 @@ VerifiedIsNeverStuck = (m : Module) (x : Executable) → IsVerified m → IsLoad
 -- no run is ever stuck
 abbrev pub NeverStuck : Type 0
 NeverStuck = (x : Executable) (e : Environment) (tables : ℕ → Given) → KeepsRules x e tables → (input : List ℕ) (arguments : List (List ℕ)) (limits : Limits) (n : ℕ) → (run_of x input arguments limits n).finish ≢ wrong
+
+-- a verified module is loaded as an executable
+abbrev pub VerifiedIsLoaded : Type 0
+VerifiedIsLoaded = (m : Module) → IsVerified m → (x : Executable) × IsLoaded m x

@@ -1,12 +1,11 @@
 -- What it is for a state of a run to be typed by tables of stack types (ECMA-335, I.12.3.2 and I.12.4).
 --   IsTypedState x tables s   each frame has the stack, the variables and the pending ways of its offset, and each object is an exception with a name and a message
 --   GoesWell x tables o       a step comes to a typed state, or the run ends
-use Rattle.std.specs.Prelude.{◌≡◌, ◌<◌, ℕ, Bool, true, false, List, [], ◌∷◌, ◌++◌, length, map, slice_get, Option, Some, None}
+use Rattle.std.specs.Prelude.{◌≡◌, ◌<◌, ℕ, true, false, List, [], ◌∷◌, ◌++◌, length, map, slice_get, Option, Some, None}
 use Rattle.cc_cil.specs.declared.body.Clause.{Clause}
 use Rattle.cc_core.specs.declared.world.Value.{Value}
 use Rattle.cc_core.specs.declared.world.Value.TheVariants as value
 use Rattle.cc_core.specs.declared.world.Object.{Object}
-use Rattle.cc_core.specs.declared.world.World.{World}
 use Rattle.cc_core.specs.SourceRun.{message_of}
 use Rattle.cc_execution.specs.declared.operation.FundamentalType.{FundamentalType}
 use Rattle.cc_execution.specs.declared.operation.FundamentalType.TheVariants.{I4}

@@ -1,7 +1,7 @@
 -- What it is for the methods of an executable to keep the verifier's rules with a table of stack types for each (ECMA-335, III.1.7 and III.1.8).
 --   IsTyped x e m t        the method does, with this table
 --   KeepsRules x e tables  each method does, and the executable has an entry
-use Rattle.std.specs.Prelude.{◌≡◌, ◌≤◌, ◌<◌, ℕ, Bool, true, false, List, [], ◌∷◌, length, slice_get, Option, Some, None, if◌then◌else◌}
+use Rattle.std.specs.Prelude.{◌≡◌, ◌≤◌, ◌<◌, ℕ, true, List, [], ◌∷◌, length, slice_get, Some, if◌then◌else◌}
 use Rattle.cc_base.specs.declared.identifiers.ClassId.{ClassId}
 use Rattle.cc_cil.specs.declared.body.ClauseKind.{ClauseKind}
 use Rattle.cc_cil.specs.declared.body.ClauseKind.TheVariants.{Catch, Finally, Fault}

@@ -37,3 +37,11 @@ pub fn verified_is_never_stuck()
     cc_cil::one_spelling();
     cc_module::one_signature();
 }
+
+/// A verified module is loaded as an executable: each instruction of its methods has an operation, and each name that
+/// it uses stands for what the machine has (ECMA-335, II.22 and II.25.4).
+pub fn verified_is_loaded()
+    ensures { spec.VerifiedIsLoaded }
+{
+    cc_module::one_signature();
+}
