@@ -1,0 +1,4 @@
+pub mod Bounds
+pub mod RegionSums
+pub mod Rows
+pub mod Sums

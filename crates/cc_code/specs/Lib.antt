@@ -1,0 +1,9 @@
+pub mod Functions
+pub mod Heights
+pub mod Instructions
+pub mod Landing
+pub mod Laws
+pub mod Operators
+pub mod Regions
+pub mod Sizes
+pub mod Terms

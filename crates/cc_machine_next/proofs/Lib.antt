@@ -1,0 +1,12 @@
+pub mod Slices
+pub mod Operations
+pub mod Throwing
+pub mod Computing
+pub mod Storing
+pub mod Returning
+pub mod Calling
+pub mod Tabling
+pub mod Printing
+pub mod Running
+pub mod Starting
+pub mod Stepping

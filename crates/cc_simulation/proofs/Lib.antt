@@ -1,0 +1,15 @@
+pub mod Calls
+pub mod Conversions
+pub mod Exits
+pub mod Loops
+pub mod Operators
+pub mod Parts
+pub mod Ranges
+pub mod Regions
+pub mod Steps
+pub mod Switches
+pub mod Targets
+pub mod Terms
+pub mod Throws
+pub mod Variables
+pub mod Whole
