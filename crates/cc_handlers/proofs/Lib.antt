@@ -1,0 +1,4 @@
+pub mod Classing
+pub mod Walking
+pub mod Departing
+pub mod Stacking
