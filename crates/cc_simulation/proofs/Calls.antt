@@ -1,5 +1,5 @@
 -- The machine does what calls mean, by how many frames are left.
-use Rattle.std.proofs.Common.{◌≡◌, ℕ, zero, suc, ◌+◌, ◌-◌, ◌*◌, ◌<◌, ◌≤◌, ◌^◌, List, [], ◌∷◌, ◌++◌, map, length, drop, take, Bool, true, false, Option, Some, None, refl, sym, ap, ◌∙◌, subst, arith, slice_get, nat_lt, lt-ltb, le-ltb, length-append, true≢false}
+use Rattle.std.proofs.Common.{◌≡◌, ℕ, zero, suc, ◌+◌, ◌-◌, List, [], ◌∷◌, ◌++◌, map, length, drop, take, Bool, true, false, Option, Some, None, refl, sym, ap, ◌∙◌, subst, arith, slice_get, nat_lt, lt-ltb, le-ltb, length-append, true≢false}
 use Rattle.std.specs.Prelude.{Ok, Err, if◌then◌else◌, option_map, ⊤}
 use Rattle.cc_base.specs.declared.identifiers.MethodId.{MethodId}
 use Rattle.cc_base.specs.declared.running.Ending.TheVariants as ending
@@ -23,10 +23,9 @@ use Rattle.cc_core.specs.Run.{Ran, Does, Calls, tick, in_world}
 use Rattle.cc_core.specs.Typed.{is_number, AreNumbers, IsCallable}
 use Rattle.cc_core.specs.Types as type
 use Rattle.cc_core.specs.Types.{BareType, bare}
-use Rattle.cc_code.specs.declared.targets.Target.{Target}
 use Rattle.cc_code.specs.declared.tokens.Tokens.{Tokens}
-use Rattle.cc_code.specs.Functions.{end_code, end_size, function_instructions, function_size}
-use Rattle.cc_code.specs.Instructions.{width, bytes}
+use Rattle.cc_code.specs.Functions.{end_code}
+use Rattle.cc_code.specs.Instructions.{width}
 use Rattle.cc_code.specs.Operators as code
 use Rattle.cc_code.specs.Regions.{region_code}
 use Rattle.cc_code.specs.Sizes.{region_size}
@@ -37,25 +36,24 @@ use Rattle.cc_execution.specs.declared.executable.PlacedOperation.{PlacedOperati
 use Rattle.cc_execution.specs.declared.operation.FundamentalType.{FundamentalType}
 use Rattle.cc_execution.specs.declared.operation.FundamentalType.TheVariants as to
 use Rattle.cc_execution.specs.declared.operation.Operation.TheVariants as does
-use Rattle.cc_execution.specs.Fundamental.{core_type, stored, stored_each}
+use Rattle.cc_execution.specs.Fundamental.{core_type, stored_each}
 use Rattle.cc_execution.specs.Handlers.{go_on}
-use Rattle.cc_execution.specs.Operations.{loaded, names_in, resolve}
+use Rattle.cc_execution.specs.Operations.{loaded}
 use Rattle.cc_execution.specs.Run.{seen_in}
 use Rattle.cc_execution.specs.State.{Frame, Next, Ends}
 use Rattle.cc_execution.specs.Step as step
 use Rattle.cc_execution.specs.Step.{given, act, popping_each, zeros_of, placed_in, return_result, return_to}
 use Rattle.cc_region.specs.declared.tree.RegionFunction.{RegionFunction}
 use Rattle.cc_region.specs.Bare.{region_of}
-use Rattle.cc_region.specs.Frames as region
 use Rattle.cc_region.specs.Frames.{calls_with, call_function, enter, returned, function_for}
 use Rattle.cc_region.specs.Leave as way
 use Rattle.cc_region.specs.Leave.{Way}
 use Rattle.cc_region.specs.Outcome.{outcome_of}
-use Rattle.cc_region.specs.Typed.{Aim, a_loop}
-use Rattle.cc_simulation.specs.Compiled.{site_of, function_site, HasResult, Compiled, Called, CompiledProgram}
+use Rattle.cc_region.specs.Typed.{a_loop}
+use Rattle.cc_simulation.specs.Compiled.{site_of, function_site, HasResult, Compiled, CompiledProgram}
 use Rattle.cc_simulation.specs.Known.{Knows}
-use Rattle.cc_simulation.specs.Sites.{Setting, Site, Quiet, StandsAt, HasAt, Fine, Good, go, state_at, frame_at, placed}
-use Rattle.cc_simulation.specs.Stretches.{Stands, Comes, Shows, Got, least, IsMeant, stopped}
+use Rattle.cc_simulation.specs.Sites.{Setting, Site, StandsAt, HasAt, Fine, Good, go, state_at, frame_at, placed}
+use Rattle.cc_simulation.specs.Stretches.{Got, IsMeant, stopped}
 use Rattle.cc_simulation.specs.Values.{IsOf, AreOf, pushed, pushed_each}
 use Rattle.cc_simulation.specs.Ways.{leads, WayGood, Low, Returns}
 use Rattle.cc_simulation.proofs.Conversions.{zero_did}

@@ -1,29 +1,28 @@
 -- What the instructions of constants, conversions and operators on one value do on the evaluation stack (ECMA-335, III.1.5 and III.3).
-use Rattle.std.proofs.Common.{◌≡◌, ℕ, zero, suc, ◌+◌, ◌-◌, ◌*◌, ◌%◌, ◌^◌, ◌<◌, ◌≤◌, List, [], ◌∷◌, ◌++◌, Bool, true, false, not, Option, Some, None, refl, sym, ap, ◌∙◌, subst, arith, true≢false, nat_eq, nat_lt, pos}
-use Rattle.std.specs.Prelude.{Ok, Err, if◌then◌else◌}
+use Rattle.std.proofs.Common.{◌≡◌, ℕ, suc, ◌+◌, ◌-◌, ◌%◌, ◌^◌, ◌<◌, List, [], ◌∷◌, Bool, true, false, not, Option, Some, refl, sym, ap, ◌∙◌, subst, arith, true≢false, nat_eq, nat_lt, pos}
+use Rattle.std.specs.Prelude.{Ok, if◌then◌else◌}
 use Rattle.std.specs.Int.{w8, w16, w32, w64, cast_signed, cast_unsigned}
 use Rattle.std.proofs.lemmas.Int.{of_z-to_z}
 use Rattle.std.proofs.lemmas.Option.{same_Some}
 use Rattle.cc_cil.specs.declared.instruction.Instruction.{Instruction}
 use Rattle.cc_cil.specs.declared.instruction.Instruction.TheVariants as the
-use Rattle.cc_core.specs.declared.state.Computed.{Computed}
 use Rattle.cc_core.specs.declared.state.State.{State}
 use Rattle.cc_core.specs.declared.types.Operator.TheVariants as op
 use Rattle.cc_core.specs.declared.types.UnaryOperator.{UnaryOperator}
 use Rattle.cc_core.specs.declared.types.UnaryOperator.TheVariants as unary
 use Rattle.cc_core.specs.declared.world.Value.{Value, Int32, Int64}
 use Rattle.cc_core.specs.declared.world.World.{World}
-use Rattle.cc_core.specs.Numbers.{is_wide, is_signed, number, truth, size as size_of, widened, narrowed, narrowed_if, converted, compute, compute_alone, computed_alone, gives_truth, is_true}
+use Rattle.cc_core.specs.Numbers.{is_wide, is_signed, number, truth, size as size_of, narrowed, narrowed_if, compute, compute_alone, computed_alone, gives_truth, is_true}
 use Rattle.cc_core.specs.Run.{Ran, convert, operate_alone, outcome_of_computed, truth_value}
 use Rattle.cc_core.specs.Run as run
-use Rattle.cc_core.specs.Typed.{is_number, is_promoted, FitsAlone, IsConstant}
+use Rattle.cc_core.specs.Typed.{is_number, FitsAlone, IsConstant}
 use Rattle.cc_core.specs.Types as type
 use Rattle.cc_core.specs.Types.{BareType}
 use Rattle.cc_core.specs.Value as value
-use Rattle.cc_code.specs.Instructions.{width, bytes}
+use Rattle.cc_code.specs.Instructions.{width}
 use Rattle.cc_code.specs.Operators as code
 use Rattle.cc_code.specs.Sizes.{constant_size, zero_size, conversion_size, unary_size}
-use Rattle.cc_code.proofs.Sums.{zero_is, constant_is}
+use Rattle.cc_code.proofs.Sums.{zero_is}
 use Rattle.cc_execution.specs.declared.operation.FundamentalType.{FundamentalType}
 use Rattle.cc_execution.specs.declared.operation.FundamentalType.TheVariants as to
 use Rattle.cc_execution.specs.declared.operation.Operation.TheVariants as does
@@ -31,12 +30,11 @@ use Rattle.cc_execution.specs.Fundamental.{core_type}
 use Rattle.cc_execution.specs.Numbers.{operated, conversion, widening}
 use Rattle.cc_execution.specs.State.{Next}
 use Rattle.cc_execution.specs.Step.{given, placed_in}
-use Rattle.cc_simulation.specs.Sites.{Setting, Site, Quiet, StandsAt, HasAt, Fine, Good, go, state_at, placed}
-use Rattle.cc_simulation.specs.Stretches.{Stands}
+use Rattle.cc_simulation.specs.Sites.{Site, Quiet, StandsAt, HasAt, Fine, Good, go, state_at}
 use Rattle.cc_simulation.specs.Values.{IsOf}
-use Rattle.cc_simulation.proofs.Operators.{computes, promoted_number}
-use Rattle.cc_simulation.proofs.Ranges.{Number, number_of, narrowed_of, promoted_fits, extended, widened_is, same_low, low_32, low_32_8, extended_truth, above_zero}
-use Rattle.cc_simulation.proofs.Steps.{did, stays, more, at_same, meant_same}
+use Rattle.cc_simulation.proofs.Operators.{computes}
+use Rattle.cc_simulation.proofs.Ranges.{number_of, narrowed_of, promoted_fits, extended, widened_is, same_low, low_32, low_32_8, extended_truth, above_zero}
+use Rattle.cc_simulation.proofs.Steps.{did, stays, at_same, meant_same}
 
 -- ---- truths
 

@@ -1,17 +1,16 @@
 -- How regions are left, and how they follow one another.
-use Rattle.std.proofs.Common.{◌≡◌, ℕ, zero, suc, ◌+◌, ◌*◌, ◌<◌, ◌≤◌, ◌^◌, List, [], ◌∷◌, ◌++◌, length, Bool, true, false, Option, Some, None, refl, sym, ap, ◌∙◌, subst, arith, slice_get}
-use Rattle.std.specs.Prelude.{Ok, Err, ⊤, option_map}
+use Rattle.std.proofs.Common.{◌≡◌, ℕ, zero, suc, ◌+◌, ◌<◌, ◌^◌, List, [], ◌∷◌, Option, Some, None, refl, sym, ap, ◌∙◌, subst, arith}
+use Rattle.std.specs.Prelude.{Ok, ⊤, option_map}
 use Rattle.cc_core.specs.declared.state.State.{State}
-use Rattle.cc_core.specs.declared.state.Stop.{Stop}
 use Rattle.cc_core.specs.declared.world.Value.{Value}
 use Rattle.cc_core.specs.declared.world.World.{World}
 use Rattle.cc_core.specs.Run.{Ran, Does}
 use Rattle.cc_core.specs.Types.{BareType}
 use Rattle.cc_code.specs.declared.targets.Target.{Target}
-use Rattle.cc_code.specs.Regions.{break_at, continue_at, target, leave}
+use Rattle.cc_code.specs.Regions.{target, leave}
 use Rattle.cc_simulation.proofs.Targets.{leave_lands}
 use Rattle.cc_execution.specs.declared.operation.Operation.TheVariants as does
-use Rattle.cc_execution.specs.Handlers.{chain_at, go_out}
+use Rattle.cc_execution.specs.Handlers.{go_out}
 use Rattle.cc_execution.specs.Links.{Link, left_for}
 use Rattle.cc_execution.specs.Operations.{natural}
 use Rattle.cc_execution.specs.State.{Next}
@@ -19,10 +18,10 @@ use Rattle.cc_execution.specs.Step.{placed_in}
 use Rattle.cc_region.specs.Leave as way
 use Rattle.cc_region.specs.Leave.{Way, then_next, left_block}
 use Rattle.cc_region.specs.Typed.{Aim, a_block, a_loop}
-use Rattle.cc_simulation.specs.Sites.{Setting, Site, Quiet, StandsAt, HasAt, Fine, go, state_at, placed}
+use Rattle.cc_simulation.specs.Sites.{Site, Quiet, StandsAt, HasAt, Fine, go, state_at, placed}
 use Rattle.cc_simulation.specs.Stretches.{Stands}
 use Rattle.cc_simulation.specs.Ways.{leads, WayGood, Low}
-use Rattle.cc_simulation.proofs.Steps.{did, stays, more, at_same, onward}
+use Rattle.cc_simulation.proofs.Steps.{did, stays, at_same, onward}
 
 no_loop : {A : Type 0} → Some a_block ≡ Some a_loop → A
 no_loop {A} e = absurd (subst (λ (o : Option Aim). elim o as (λ (o : Option Aim). Type 0) [ None ↦ ⊤ | Some aim ↦ elim aim as (λ (aim : Aim). Type 0) [ a_block ↦ ⊤ | a_loop ↦ ⊥ ] ]) e tt)

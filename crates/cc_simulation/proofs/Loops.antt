@@ -1,49 +1,39 @@
 -- The machine does what loops mean.
-use Rattle.std.proofs.Common.{◌≡◌, ℕ, zero, suc, ◌+◌, ◌*◌, ◌<◌, ◌≤◌, ◌^◌, List, [], ◌∷◌, ◌++◌, length, Bool, true, false, Option, Some, None, refl, sym, ap, ◌∙◌, subst, arith, slice_get}
-use Rattle.std.specs.Prelude.{Ok, Err, ⊤, option_map, if◌then◌else◌}
-use Rattle.cc_cil.specs.declared.instruction.Instruction.{Instruction}
-use Rattle.cc_cil.specs.declared.instruction.Instruction.TheVariants as the
+use Rattle.std.proofs.Common.{◌≡◌, ℕ, zero, suc, ◌+◌, ◌<◌, ◌≤◌, ◌^◌, List, [], ◌∷◌, Bool, true, false, Option, Some, None, refl, ap, subst, arith}
+use Rattle.std.specs.Prelude.{Ok, Err, if◌then◌else◌}
 use Rattle.cc_core.specs.declared.state.State.{State}
 use Rattle.cc_core.specs.declared.state.Stop.TheVariants.{Going}
-use Rattle.cc_core.specs.declared.tree.LoopKind.{LoopKind}
-use Rattle.cc_core.specs.declared.tree.LoopKind.TheVariants.{TestFirst, BodyFirst}
 use Rattle.cc_core.specs.declared.world.Value.{Value}
 use Rattle.cc_core.specs.declared.world.World.{World}
 use Rattle.cc_core.specs.Numbers.{is_true}
-use Rattle.cc_core.specs.Run.{Ran, Does, Calls, bind, gives, stops, tick, by_truth}
+use Rattle.cc_core.specs.Run.{Does, Calls, bind, gives, stops, tick, by_truth}
 use Rattle.cc_core.specs.Term.{Term, type_of}
-use Rattle.cc_core.specs.Typed.{is_number, IsTyped, IsTypedIf, IsCondition}
+use Rattle.cc_core.specs.Typed.{IsTypedIf}
 use Rattle.cc_core.specs.Types.{BareType}
 use Rattle.cc_core.specs.Value.{value_of}
 use Rattle.cc_code.specs.declared.targets.Target.{Target}
 use Rattle.cc_code.specs.declared.tokens.Tokens.{Tokens}
-use Rattle.cc_code.specs.Instructions.{width, bytes, ahead, back}
 use Rattle.cc_code.specs.Operators.{drop_value}
-use Rattle.cc_code.specs.Regions.{break_at, continue_at, target, do_code, do_if_code, entry_code, region_code}
-use Rattle.cc_code.specs.Sizes.{term_size, drop_size, do_size, do_if_size, step_of, entry_size, region_size}
+use Rattle.cc_code.specs.Regions.{target, do_if_code, region_code}
+use Rattle.cc_code.specs.Sizes.{term_size, do_if_size, region_size}
 use Rattle.cc_code.specs.Terms.{term_code}
-use Rattle.cc_simulation.proofs.Targets.{ahead_lands, back_lands}
-use Rattle.cc_code.proofs.RegionSums.{do_if_is, region_is}
 use Rattle.cc_code.proofs.Sums.{term_is}
 use Rattle.cc_execution.specs.declared.operation.Operation.TheVariants as does
-use Rattle.cc_execution.specs.Operations.{natural}
 use Rattle.cc_execution.specs.State.{Next}
 use Rattle.cc_execution.specs.Step.{placed_in}
 use Rattle.cc_region.specs.Leave as way
 use Rattle.cc_region.specs.Leave.{Way, then_next, after_body, turns, turns_after}
 use Rattle.cc_region.specs.Outcome.{do_if, outcome_of}
-use Rattle.cc_region.specs.Region as region
 use Rattle.cc_region.specs.Region.{Region}
-use Rattle.cc_region.specs.Typed.{Aim, a_block, a_loop}
-use Rattle.cc_simulation.specs.Known.{IsSmall, IsSmallIf, Knows}
-use Rattle.cc_simulation.specs.Sites.{Setting, Site, Quiet, StandsAt, HasAt, Fine, go, state_at, placed}
-use Rattle.cc_simulation.specs.Stretches.{Stands}
+use Rattle.cc_region.specs.Typed.{Aim, a_loop}
+use Rattle.cc_simulation.specs.Known.{IsSmallIf, Knows}
+use Rattle.cc_simulation.specs.Sites.{Site, HasAt, Fine, go, state_at}
 use Rattle.cc_simulation.specs.Ways.{leads, WayGood, Low}
-use Rattle.cc_simulation.proofs.Exits.{WaysWithin, WaysAt, nexts, low_more}
+use Rattle.cc_simulation.proofs.Exits.{WaysWithin, WaysAt, nexts}
 use Rattle.cc_simulation.proofs.Parts.{has_front, has_back, drops}
 use Rattle.cc_simulation.proofs.Steps.{did, did_more, stays, more, at_same, ticks, binds, onward}
 use Rattle.cc_simulation.proofs.Throws.{going_right}
-use Rattle.cc_simulation.proofs.Terms.{TermStands, NumberStands, numbered, term_stands}
+use Rattle.cc_simulation.proofs.Terms.{NumberStands, term_stands}
 
 module _ (h : Site) (tokens : Tokens) (parameters : ℕ) (k : Calls) (known : Knows h tokens parameters k) (result : BareType) (returns : Value → World → Next) where
   -- what a region does, inside constructs at which its exits may be aimed

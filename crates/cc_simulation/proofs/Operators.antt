@@ -1,9 +1,7 @@
 -- What the instructions of constants and operators do on the evaluation stack (ECMA-335, III.1.5 and III.3).
-use Rattle.std.proofs.Common.{◌≡◌, ℕ, zero, suc, ◌+◌, ◌-◌, ◌*◌, ◌/◌, ◌%◌, ◌^◌, ◌<◌, ◌≤◌, List, [], ◌∷◌, ◌++◌, Bool, true, false, not, Option, Some, None, refl, sym, ap, ◌∙◌, subst, arith, true≢false, nat_eq, nat_lt, pos}
-use Rattle.std.specs.Prelude.{Ok, Err, if◌then◌else◌, ◌&&◌, cond}
-use Rattle.std.specs.Int.{w32, w64, cast_signed, cast_unsigned, int_shr}
-use Rattle.std.proofs.lemmas.Int.{of_z-to_z}
-use Rattle.cc_cil.specs.declared.instruction.Instruction.{Instruction}
+use Rattle.std.proofs.Common.{◌≡◌, ℕ, suc, ◌+◌, ◌*◌, ◌/◌, ◌%◌, ◌^◌, ◌<◌, List, [], ◌∷◌, ◌++◌, Bool, true, false, not, Option, Some, None, refl, sym, ap, ◌∙◌, subst, arith, true≢false, nat_eq}
+use Rattle.std.specs.Prelude.{if◌then◌else◌, ◌&&◌, cond}
+use Rattle.std.specs.Int.{cast_signed, cast_unsigned, int_shr}
 use Rattle.cc_cil.specs.declared.instruction.Instruction.TheVariants as the
 use Rattle.cc_core.specs.declared.state.Computed.{Computed}
 use Rattle.cc_core.specs.declared.state.Computed.TheVariants.{Gives, Throws}
@@ -13,24 +11,22 @@ use Rattle.cc_core.specs.declared.types.Operator.TheVariants as op
 use Rattle.cc_core.specs.declared.world.Value.{Value, Int32, Int64}
 use Rattle.cc_core.specs.declared.world.World.{World}
 use Rattle.cc_core.specs.Numbers.{is_wide, is_signed, is_shift, number, truth, compute, computed, gives_truth, is_less, size, width as width_of}
-use Rattle.cc_core.specs.Run.{Ran, outcome_of_computed, operate}
+use Rattle.cc_core.specs.Run.{outcome_of_computed, operate}
 use Rattle.cc_core.specs.Typed.{is_number, is_promoted, compares, shifts, result_of, FitsRight}
 use Rattle.cc_core.specs.Types as type
 use Rattle.cc_core.specs.Types.{BareType}
 use Rattle.cc_code.specs.Instructions.{width, bytes}
-use Rattle.cc_code.specs.Operators.{operation, denies, denial, operator_code, count_code, zero as zero_instruction}
+use Rattle.cc_code.specs.Operators.{operation, denies, denial, operator_code, count_code}
 use Rattle.cc_code.specs.Sizes.{operator_size, count_size}
-use Rattle.cc_code.proofs.Sums.{operator_is, count_is}
+use Rattle.cc_code.proofs.Sums.{operator_is}
 use Rattle.cc_execution.specs.declared.operation.FundamentalType.TheVariants as to
-use Rattle.cc_execution.specs.declared.operation.Operation.{Operation}
 use Rattle.cc_execution.specs.declared.operation.Operation.TheVariants as does
-use Rattle.cc_execution.specs.Numbers.{operated, conversion}
+use Rattle.cc_execution.specs.Numbers.{operated}
 use Rattle.cc_execution.specs.Operations.{Names, resolve}
-use Rattle.cc_execution.specs.State.{Next}
-use Rattle.cc_execution.specs.Step.{given, on_computed, goes_to, placed_in}
-use Rattle.cc_simulation.specs.Sites.{Setting, Site, Quiet, StandsAt, HasAt, Fine, Good, go, state_at, frame_at, placed}
+use Rattle.cc_execution.specs.Step.{given, on_computed, placed_in}
+use Rattle.cc_simulation.specs.Sites.{Site, Quiet, StandsAt, HasAt, Fine, Good, go, state_at, frame_at, placed}
 use Rattle.cc_simulation.specs.Values.{IsOf, FitsComputed}
-use Rattle.cc_simulation.proofs.Ranges.{Number, number_of, arithmetic_fits, comparison_fits}
+use Rattle.cc_simulation.proofs.Ranges.{number_of, arithmetic_fits, comparison_fits}
 use Rattle.cc_simulation.proofs.Steps.{did, stays, more, at_same, meant_same}
 use Rattle.cc_simulation.proofs.Throws.{throws_made}
 

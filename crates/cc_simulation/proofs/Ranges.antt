@@ -1,28 +1,26 @@
 -- Which values operators and conversions give, and what of them is left where they are stored.
-use Rattle.std.proofs.Common.{◌≡◌, ℕ, zero, suc, ◌+◌, ◌-◌, ◌*◌, ◌/◌, ◌%◌, ◌^◌, ◌<◌, ◌≤◌, ◌⊎◌, inl, inr, ℤ, pos, negsuc, neg_ℤ, Bool, true, false, not, Option, Some, None, refl, sym, ap, ◌∙◌, subst, arith, true≢false, nat_eq, nat_lt, div-le_self, mod-lt, lt-ltb, le-ltb}
-use Rattle.std.specs.Prelude.{bit_and, bit_or, bit_xor, if◌then◌else◌, ◌&&◌, ◌≢◌, nat_abs}
-use Rattle.std.specs.Int.{Width, w8, w16, w32, w64, cast_signed, cast_unsigned, int_shr}
+use Rattle.std.proofs.Common.{◌≡◌, ℕ, zero, suc, ◌+◌, ◌-◌, ◌*◌, ◌/◌, ◌%◌, ◌^◌, ◌<◌, ◌≤◌, ◌⊎◌, inl, inr, ℤ, pos, negsuc, neg_ℤ, Bool, true, false, not, Some, refl, sym, ap, ◌∙◌, arith, true≢false, nat_eq, nat_lt, div-le_self, mod-lt, lt-ltb, le-ltb}
+use Rattle.std.specs.Prelude.{bit_and, bit_or, bit_xor, if◌then◌else◌, nat_abs}
+use Rattle.std.specs.Int.{w8, w16, w32, w64, cast_signed, cast_unsigned}
 use Rattle.std.specs.Int.Bits.{and_lt}
 use Rattle.std.proofs.lemmas.Bool.{cases_lt, ne_eqb}
 use Rattle.std.proofs.lemmas.Nat.{or_lt, xor_lt}
-use mir.Val.{sel, Fits}
+use mir.Val.{sel}
 use native.Mathlib.Nat.{mod-le}
 use mir.ValLaws.{to_z-Fits}
 use lib.Signed.{mag, quot_z, rem_z, shr_z}
-use Rattle.cc_core.specs.declared.state.Computed.{Computed}
 use Rattle.cc_core.specs.declared.state.Computed.TheVariants.{Gives, Throws}
 use Rattle.cc_core.specs.declared.types.Operator.{Operator}
 use Rattle.cc_core.specs.declared.types.Operator.TheVariants as op
 use Rattle.cc_core.specs.declared.world.Value.{Value, Int32, Int64}
-use Rattle.cc_core.specs.Numbers.{is_wide, is_signed, number, truth, size, widened, narrowed, converted, compute, divided, overflows, quotient, remainder, shifted_left, shifted_right, gives_truth, is_true, zero_of, DivideByZero, Arithmetic}
-use Rattle.cc_core.specs.Typed.{is_number, is_promoted, compares, result_of}
+use Rattle.cc_core.specs.Numbers.{is_wide, is_signed, number, truth, widened, narrowed, compute, overflows, quotient, remainder, shifted_right, zero_of, DivideByZero, Arithmetic}
+use Rattle.cc_core.specs.Typed.{is_number, is_promoted, compares}
 use Rattle.cc_core.specs.Types as type
 use Rattle.cc_core.specs.Types.{BareType}
 use Rattle.cc_execution.specs.declared.operation.FundamentalType.{FundamentalType}
 use Rattle.cc_execution.specs.declared.operation.FundamentalType.TheVariants as the
 use Rattle.cc_execution.specs.Fundamental.{core_type, stored}
-use Rattle.cc_execution.specs.Numbers.{conversion, widening}
-use Rattle.cc_simulation.specs.Values.{IsBelow, IsOf, IsArithmetic, FitsComputed}
+use Rattle.cc_simulation.specs.Values.{IsOf, FitsComputed}
 
 -- ---- signs
 

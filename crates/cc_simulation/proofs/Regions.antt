@@ -1,6 +1,6 @@
 -- The machine does what regions mean.
-use Rattle.std.proofs.Common.{◌≡◌, ℕ, zero, suc, ◌+◌, ◌*◌, ◌<◌, ◌≤◌, ◌^◌, List, [], ◌∷◌, ◌++◌, length, Bool, true, false, Option, Some, None, refl, sym, ap, ◌∙◌, subst, arith, slice_get}
-use Rattle.std.specs.Prelude.{Ok, Err, ⊤, option_map, if◌then◌else◌}
+use Rattle.std.proofs.Common.{◌≡◌, ℕ, ◌+◌, ◌<◌, ◌^◌, List, [], ◌∷◌, ◌++◌, true, Option, Some, None, refl, sym, ap, ◌∙◌, subst, arith, slice_get}
+use Rattle.std.specs.Prelude.{option_map}
 use Rattle.cc_base.specs.declared.identifiers.LocalId.{LocalId}
 use Rattle.cc_cil.specs.declared.instruction.Instruction.{Instruction}
 use Rattle.cc_cil.specs.declared.instruction.Instruction.TheVariants as the
@@ -9,13 +9,12 @@ use Rattle.cc_core.specs.declared.tree.LoopKind.{LoopKind}
 use Rattle.cc_core.specs.declared.tree.LoopKind.TheVariants.{TestFirst, BodyFirst}
 use Rattle.cc_core.specs.declared.world.Value.{Value, Nothing}
 use Rattle.cc_core.specs.declared.world.World.{World}
-use Rattle.cc_core.specs.Numbers.{is_wide, number, zero_of}
+use Rattle.cc_core.specs.Numbers.{is_wide, number}
 use Rattle.cc_core.specs.Outcome.{initial_value}
 use Rattle.cc_core.specs.Run as run
 use Rattle.cc_core.specs.Run.{Ran, Does, Calls, bind, gives, tick, write_local, by_truth}
 use Rattle.cc_core.specs.Term.{Term, type_of}
 use Rattle.cc_core.specs.Typed.{is_number, IsTyped, IsTypedIf, FitsVariable, FitsResult}
-use Rattle.cc_core.specs.Types as type
 use Rattle.cc_core.specs.Types.{BareType}
 use Rattle.cc_core.specs.Value.{value_of}
 use Rattle.cc_code.specs.declared.targets.Target.{Target}
@@ -23,36 +22,35 @@ use Rattle.cc_code.specs.declared.tokens.Tokens.{Tokens}
 use Rattle.cc_code.specs.Instructions.{width, bytes, ahead, back, branches}
 use Rattle.cc_code.specs.Operators as code
 use Rattle.cc_code.specs.Operators.{drop_value, store}
-use Rattle.cc_code.specs.Regions.{break_at, continue_at, target, default_place, sections_at, do_code, do_if_code, initial_code, declare_code, return_code, entry_code, tests_code, region_code, regions_code, sections_code}
-use Rattle.cc_code.specs.Sizes.{term_size, zero_size, drop_size, do_size, do_if_size, initial_size, return_size, step_of, entry_size, tests_size, region_size, regions_size, sections_size}
+use Rattle.cc_code.specs.Regions.{break_at, continue_at, target, default_place, sections_at, do_if_code, initial_code, declare_code, return_code, tests_code, region_code, regions_code, sections_code}
+use Rattle.cc_code.specs.Sizes.{term_size, do_if_size, initial_size, tests_size, region_size, sections_size}
 use Rattle.cc_code.specs.Terms.{term_code}
 use Rattle.cc_simulation.proofs.Targets.{ahead_lands, back_lands}
-use Rattle.cc_code.proofs.RegionSums.{do_if_is, tests_are, region_is, regions_are, sections_are}
-use Rattle.cc_code.proofs.Sums.{zero_is as zero_width_is, store_is, drop_is, term_is, branches_is}
+use Rattle.cc_code.proofs.RegionSums.{do_if_is, tests_are, region_is, sections_are}
+use Rattle.cc_code.proofs.Sums.{zero_is as zero_width_is, store_is, term_is, branches_is}
 use Rattle.cc_execution.specs.declared.operation.Operation.TheVariants as does
 use Rattle.cc_execution.specs.Operations.{natural}
 use Rattle.cc_execution.specs.State.{Next}
 use Rattle.cc_execution.specs.Step.{act, placed_in}
 use Rattle.cc_region.specs.Leave as way
 use Rattle.cc_region.specs.Leave.{Way, left_block}
-use Rattle.cc_region.specs.Outcome.{in_order, outcome_of, matching, defaulting, loop, return_if, do_if}
+use Rattle.cc_region.specs.Outcome.{outcome_of, matching, defaulting, loop, return_if, do_if}
 use Rattle.cc_region.specs.Region as region
 use Rattle.cc_region.specs.Region.{Region, Regions, Sections, no_regions, next_region, no_sections, next_section}
 use Rattle.cc_region.specs.Typed.{Aim, a_block, a_loop, IsFit, AreFit, AreFitSections}
 use Rattle.cc_simulation.specs.Known.{IsSmall, IsSmallIf, Knows}
-use Rattle.cc_simulation.specs.Sites.{Setting, Site, Quiet, StandsAt, HasAt, Fine, Good, go, state_at, placed}
-use Rattle.cc_simulation.specs.Stretches.{Stands}
+use Rattle.cc_simulation.specs.Sites.{Site, StandsAt, HasAt, Fine, Good, go, state_at, placed}
 use Rattle.cc_simulation.specs.Values.{IsOf, pushed}
 use Rattle.cc_simulation.specs.Ways.{leads, WayGood, Low, Returns, IsSmallRegion, AreSmallRegions, AreSmallSections}
-use Rattle.cc_simulation.proofs.Exits.{WaysWithin, WaysAt, nexts, then_nop, then_jump, block_left, leave_stands, low_more}
+use Rattle.cc_simulation.proofs.Exits.{WaysAt, nexts, then_nop, then_jump, block_left, leave_stands, low_more}
 use Rattle.cc_simulation.proofs.Conversions.{zero_did}
 use Rattle.cc_simulation.proofs.Loops.{RegionStands, do_if_stands, turns_stand, after_stand}
 use Rattle.cc_simulation.proofs.Operators.{promoted_number}
-use Rattle.cc_simulation.proofs.Parts.{has_front, has_back, as_number, branches_stand, drops, store_stands}
+use Rattle.cc_simulation.proofs.Parts.{has_front, has_back, branches_stand, drops, store_stands}
 use Rattle.cc_simulation.proofs.Ranges.{zero_is, zero_fits}
-use Rattle.cc_simulation.proofs.Steps.{did, stays, more, at_same, meant_same, ticks, binds, onward}
+use Rattle.cc_simulation.proofs.Steps.{did, stays, more, at_same, meant_same, ticks, binds}
 use Rattle.cc_simulation.proofs.Switches.{RegionsStand, SectionsStand, matching_stands, default_stands, store_told}
-use Rattle.cc_simulation.proofs.Terms.{TermStands, NumberStands, numbered, term_stands}
+use Rattle.cc_simulation.proofs.Terms.{numbered, term_stands}
 
 module _ (h : Site) (tokens : Tokens) (parameters : ℕ) (k : Calls) (known : Knows h tokens parameters k) (result : BareType) (returns : Value → World → Next) (returning : Returns h result returns) where
   -- a variable is set to its first value

@@ -1,6 +1,6 @@
 -- How stretches of a run of the machine join.
-use Rattle.std.proofs.Common.{◌≡◌, ℕ, zero, suc, ◌+◌, ◌*◌, ◌≤◌, List, [], ◌∷◌, Option, Some, None, refl, sym, ap, ◌∙◌, subst, arith}
-use Rattle.std.specs.Prelude.{Result, Ok, Err}
+use Rattle.std.proofs.Common.{◌≡◌, ℕ, suc, ◌+◌, ◌≤◌, List, Some, refl, sym, ap, ◌∙◌, subst, arith}
+use Rattle.std.specs.Prelude.{Ok, Err}
 use Rattle.cc_core.specs.declared.state.State.{State}
 use Rattle.cc_core.specs.declared.state.Stop.{Stop}
 use Rattle.cc_core.specs.declared.state.Stop.TheVariants.{Throws, HeapLimit, DepthLimit, Going, Wrong}
@@ -9,12 +9,11 @@ use Rattle.cc_core.specs.declared.world.World.{World}
 use Rattle.cc_core.specs.Run.{Ran, Does, bind}
 use Rattle.cc_execution.specs.declared.executable.Executable.{Executable}
 use Rattle.cc_execution.specs.declared.executable.PlacedOperation.{PlacedOperation}
-use Rattle.cc_execution.specs.declared.operation.Operation.{Operation}
-use Rattle.cc_execution.specs.Run.{runs, Seen, seen, seen_in}
+use Rattle.cc_execution.specs.Run.{runs, Seen, seen}
 use Rattle.cc_execution.specs.State as machine
 use Rattle.cc_execution.specs.State.{Next, Goes, then_go}
 use Rattle.cc_execution.specs.Step.{given, act, step, placed_in}
-use Rattle.cc_simulation.specs.Stretches.{Comes, Shows, least, IsMeant, stopped, Got, Stands}
+use Rattle.cc_simulation.specs.Stretches.{Comes, Shows, least, Got, Stands}
 
 module _ (x : Executable) (frames : ℕ) where
   pub arrives : {from to : Next} (b before : ℕ) → from ≡ to → Comes x frames b before before from to

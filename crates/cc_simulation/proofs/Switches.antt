@@ -1,7 +1,7 @@
 -- The machine does what switches mean: the tests of labels in order, and then the sections.
-use Rattle.std.proofs.Common.{◌≡◌, ℕ, zero, suc, ◌+◌, ◌*◌, ◌%◌, ◌<◌, ◌≤◌, ◌^◌, List, [], ◌∷◌, ◌++◌, length, Bool, true, false, not, Option, Some, None, refl, sym, ap, ◌∙◌, subst, arith, slice_get, slice_set, nat_eq, nat_lt, lt-ltb, le-ltb, true≢false, ◌⊎◌, inl, inr}
+use Rattle.std.proofs.Common.{◌≡◌, ℕ, zero, suc, ◌+◌, ◌%◌, ◌<◌, ◌≤◌, ◌^◌, List, [], ◌∷◌, ◌++◌, length, Bool, true, false, Option, Some, refl, sym, ap, ◌∙◌, subst, arith, slice_get, slice_set, nat_eq, nat_lt, lt-ltb, le-ltb, true≢false, ◌⊎◌, inl, inr}
 use Rattle.std.specs.Prelude.{Ok, Err, ⊤, option_map, if◌then◌else◌, ◌||◌}
-use Rattle.std.specs.Int.{w32, w64, cast_signed, cast_unsigned}
+use Rattle.std.specs.Int.{w32, w64, cast_signed}
 use Rattle.std.proofs.lemmas.Bool.{cases_lt, ne_eqb, ltb-false}
 use Rattle.std.proofs.lemmas.Int.{of_z-to_z}
 use Rattle.cc_base.specs.declared.identifiers.LocalId.{LocalId}
@@ -13,24 +13,23 @@ use Rattle.cc_core.specs.declared.state.Stop.TheVariants.{Wrong}
 use Rattle.cc_core.specs.declared.tree.SwitchLabel.{SwitchLabel}
 use Rattle.cc_core.specs.declared.tree.SwitchLabel.TheVariants.{Case, Default}
 use Rattle.cc_core.specs.declared.types.Operator.TheVariants as op
-use Rattle.cc_core.specs.declared.world.Value.{Value, Int32, Int64}
+use Rattle.cc_core.specs.declared.world.Value.{Value, Int32}
 use Rattle.cc_core.specs.declared.world.World.{World}
 use Rattle.cc_core.specs.Leave.{is_case, find_case, has_default}
 use Rattle.cc_core.specs.Numbers.{is_wide, number, truth, is_true, gives_truth}
-use Rattle.cc_core.specs.Run.{Ran, Does, Calls, bind, gives, tick, in_world, with_variable, write_local}
-use Rattle.cc_core.specs.Term.{Term, type_of}
+use Rattle.cc_core.specs.Run.{Ran, Does, Calls, tick, in_world, with_variable, write_local}
 use Rattle.cc_core.specs.Typed.{is_number}
 use Rattle.cc_core.specs.Types.{BareType}
 use Rattle.cc_code.specs.declared.targets.Target.{Target}
 use Rattle.cc_code.specs.declared.tokens.Tokens.{Tokens}
-use Rattle.cc_code.specs.Instructions.{width, bytes, ahead}
+use Rattle.cc_code.specs.Instructions.{width, ahead}
 use Rattle.cc_code.specs.Operators as code
 use Rattle.cc_code.specs.Operators.{load, store}
-use Rattle.cc_code.specs.Regions.{default_place, target, test_code, labels_code, tests_code, regions_code, sections_code}
-use Rattle.cc_code.specs.Sizes.{constant_size, is_tested, test_size, labels_size, tests_size, regions_size, sections_size}
+use Rattle.cc_code.specs.Regions.{default_place, labels_code, tests_code, regions_code, sections_code}
+use Rattle.cc_code.specs.Sizes.{constant_size, is_tested, labels_size, tests_size, regions_size, sections_size}
 use Rattle.cc_simulation.proofs.Targets.{ahead_lands}
-use Rattle.cc_code.proofs.RegionSums.{test_is, labels_are, tests_are, regions_are, sections_are}
-use Rattle.cc_code.proofs.Sums.{constant_is, load_is, store_is}
+use Rattle.cc_code.proofs.RegionSums.{labels_are, regions_are}
+use Rattle.cc_code.proofs.Sums.{constant_is, load_is}
 use Rattle.cc_execution.specs.declared.operation.Operation.TheVariants as does
 use Rattle.cc_execution.specs.Numbers.{operated}
 use Rattle.cc_execution.specs.Operations.{natural}
@@ -41,17 +40,16 @@ use Rattle.cc_execution.specs.Step as step
 use Rattle.cc_region.specs.Leave as way
 use Rattle.cc_region.specs.Leave.{Way, then_next, by_case}
 use Rattle.cc_region.specs.Outcome.{in_order, matching, defaulting, following}
-use Rattle.cc_region.specs.Region.{Regions, Sections, no_regions, next_region, no_sections, next_section}
+use Rattle.cc_region.specs.Region.{Regions, Sections, no_sections, next_section}
 use Rattle.cc_region.specs.Typed.{Aim}
 use Rattle.cc_simulation.specs.Known.{Knows}
-use Rattle.cc_simulation.specs.Sites.{Setting, Site, Quiet, StandsAt, HasAt, Fine, Good, go, state_at, placed}
-use Rattle.cc_simulation.specs.Stretches.{Stands}
+use Rattle.cc_simulation.specs.Sites.{Site, StandsAt, HasAt, Fine, go, state_at, placed}
 use Rattle.cc_simulation.specs.Values.{IsOf}
-use Rattle.cc_simulation.specs.Ways.{leads, WayGood, Low, AreSmallLabels, AreSmallSections}
-use Rattle.cc_simulation.proofs.Exits.{WaysWithin, WaysAt, nexts}
+use Rattle.cc_simulation.specs.Ways.{Low, AreSmallLabels, AreSmallSections}
+use Rattle.cc_simulation.proofs.Exits.{WaysAt, nexts}
 use Rattle.cc_simulation.proofs.Parts.{has_front, has_back, are_set, are_within}
-use Rattle.cc_simulation.proofs.Ranges.{Number, number_of, stored_is}
-use Rattle.cc_simulation.proofs.Steps.{did, stays, more, at_same, meant_same, ticks, binds, onward}
+use Rattle.cc_simulation.proofs.Ranges.{number_of, stored_is}
+use Rattle.cc_simulation.proofs.Steps.{did, stays, more, at_same, meant_same, ticks}
 
 -- ---- labels
 

@@ -1,8 +1,7 @@
 -- The machine does what expressions mean.
-use Rattle.std.proofs.Common.{◌≡◌, ℕ, zero, suc, ◌+◌, ◌-◌, ◌*◌, ◌<◌, ◌≤◌, List, [], ◌∷◌, ◌++◌, length, Bool, true, false, not, Option, Some, None, refl, sym, ap, ◌∙◌, subst, arith, true≢false, slice_get, slice_set, nat_lt, lt-ltb, append_assoc, append-nil, pos}
-use Rattle.std.specs.Prelude.{Ok, Err, if◌then◌else◌, cond, option_map, ⊤}
+use Rattle.std.proofs.Common.{◌≡◌, ℕ, ◌+◌, List, [], ◌∷◌, ◌++◌, Bool, true, false, Option, Some, refl, sym, ap, ◌∙◌, subst, arith, slice_get, append_assoc, append-nil}
+use Rattle.std.specs.Prelude.{cond, ⊤}
 use Rattle.cc_base.specs.declared.identifiers.LocalId.{LocalId}
-use Rattle.cc_base.specs.declared.identifiers.MethodId.{MethodId}
 use Rattle.cc_cil.specs.declared.instruction.Instruction.{Instruction}
 use Rattle.cc_cil.specs.declared.instruction.Instruction.TheVariants as the
 use Rattle.cc_core.specs.declared.library_call.LibraryCall.{LibraryCall}
@@ -10,21 +9,19 @@ use Rattle.cc_core.specs.declared.library_call.LibraryCall.TheVariants.{Write, W
 use Rattle.cc_core.specs.declared.library_call.Printed.{Printed}
 use Rattle.cc_core.specs.declared.library_call.Printed.TheVariants as printed
 use Rattle.cc_core.specs.declared.state.State.{State}
-use Rattle.cc_core.specs.declared.state.Stop.TheVariants.{Wrong}
 use Rattle.cc_core.specs.declared.tree.Dispatch.{Dispatch}
 use Rattle.cc_core.specs.declared.tree.Dispatch.TheVariants.{Direct, Virtual}
-use Rattle.cc_core.specs.declared.tree.UpdateResult.{UpdateResult}
 use Rattle.cc_core.specs.declared.tree.UpdateResult.TheVariants.{New, Old}
 use Rattle.cc_core.specs.declared.types.Operator.{Operator}
 use Rattle.cc_core.specs.declared.types.UnaryOperator.{UnaryOperator}
 use Rattle.cc_core.specs.declared.types.UnaryOperator.TheVariants as unary
-use Rattle.cc_core.specs.declared.world.Value.{Value, Int32, Int64, Nothing}
+use Rattle.cc_core.specs.declared.world.Value.{Value, Nothing}
 use Rattle.cc_core.specs.declared.world.World.{World}
 use Rattle.cc_core.specs.LibraryCalls as source
 use Rattle.cc_core.specs.LibraryCalls.{printed_bytes}
 use Rattle.cc_core.specs.declared.state.Root.TheVariants as root
 use Rattle.cc_core.specs.declared.state.Target.{Target}
-use Rattle.cc_core.specs.Numbers.{truth, converted, narrowed_if, is_signed, is_wide, number, is_true}
+use Rattle.cc_core.specs.Numbers.{converted, narrowed_if, is_signed, is_wide, is_true}
 use Rattle.cc_core.specs.Run as run
 use Rattle.cc_core.specs.Run.{Ran, Does, Calls, bind, gives, tick, in_world, with_variable, with_output, read_local, write_local, write_target, convert, operate, by_truth, truth_value}
 use Rattle.cc_core.specs.Term as term
@@ -33,33 +30,26 @@ use Rattle.cc_core.specs.Typed.{is_number, is_promoted, compares, shifts, result
 use Rattle.cc_core.specs.Typed as typed
 use Rattle.cc_core.specs.Types as type
 use Rattle.cc_core.specs.Types.{BareType}
-use Rattle.cc_core.specs.Value.{value_of, values_of, update, updated, dispatched}
+use Rattle.cc_core.specs.Value.{value_of, values_of}
 use Rattle.cc_code.specs.declared.tokens.Tokens.{Tokens}
-use Rattle.cc_code.specs.Instructions.{width, bytes, branches, ahead}
-use Rattle.cc_code.specs.Operators as code
-use Rattle.cc_code.specs.Operators.{load, store, drop_value, conversion, unary_code, count_code, operator_code, operated, changed, keep_old, keep_new}
-use Rattle.cc_code.specs.Sizes.{constant_size, drop_size, conversion_size, operator_size, count_size, unary_size, truth_size, term_size, terms_size}
+use Rattle.cc_code.specs.Instructions.{width, bytes, branches}
+use Rattle.cc_code.specs.Operators.{load, store, drop_value, conversion, unary_code, count_code, operator_code, operated, changed}
+use Rattle.cc_code.specs.Sizes.{drop_size, conversion_size, operator_size, count_size, truth_size, term_size, terms_size}
 use Rattle.cc_code.specs.Terms.{term_code, terms_code, call, library_token}
-use Rattle.cc_simulation.proofs.Targets.{ahead_lands}
-use Rattle.cc_code.proofs.Sums.{bytes-append, load_is, store_is, drop_is, conversion_is, count_is, operator_is, unary_is, term_is, terms_are, operated_is, changed_is}
-use Rattle.cc_execution.specs.declared.operation.FundamentalType.{FundamentalType}
-use Rattle.cc_execution.specs.declared.operation.FundamentalType.TheVariants as to
+use Rattle.cc_code.proofs.Sums.{bytes-append, load_is, store_is, drop_is, conversion_is, term_is, terms_are, operated_is, changed_is}
 use Rattle.cc_execution.specs.declared.operation.Operation.TheVariants as does
-use Rattle.cc_execution.specs.Fundamental.{core_type, stored}
-use Rattle.cc_execution.specs.Operations.{natural, resolve}
+use Rattle.cc_execution.specs.Fundamental.{core_type}
 use Rattle.cc_execution.specs.State.{Next}
-use Rattle.cc_execution.specs.State as machine
 use Rattle.cc_execution.specs.Step.{given, placed_in, printed_type}
 use Rattle.cc_execution.specs.Step as step
 use Rattle.cc_simulation.specs.Known.{IsSmall, AreSmall, Knows}
-use Rattle.cc_simulation.specs.Sites.{Setting, Site, Quiet, StandsAt, HasAt, Fine, Good, go, state_at, placed}
-use Rattle.cc_simulation.specs.Stretches.{Stands}
+use Rattle.cc_simulation.specs.Sites.{Site, StandsAt, HasAt, Fine, Good, go, state_at, placed}
 use Rattle.cc_simulation.specs.Values.{IsOf, AreOf, pushed, pushed_each}
-use Rattle.cc_simulation.proofs.Parts.{has_front, has_back, pushed_is, pushed_last, are_append, result_number, right_number, EndsAt, NumberAt, as_number, of_number, then_branch, branches_stand, drops, load_stands, store_stands}
-use Rattle.cc_simulation.proofs.Conversions.{constant_stands, conversion_stands, truth_stands, alone_stands, truth_of}
-use Rattle.cc_simulation.proofs.Operators.{binary_stands, promoted_number, same_shift}
-use Rattle.cc_simulation.proofs.Ranges.{Number, number_of, narrowed_of, extended, widened_is, stored_is}
-use Rattle.cc_simulation.proofs.Steps.{did, stays, more, at_same, meant_same, ticks, binds, onward}
+use Rattle.cc_simulation.proofs.Parts.{has_front, has_back, pushed_last, are_append, result_number, right_number, EndsAt, NumberAt, as_number, of_number, then_branch, branches_stand, drops, load_stands, store_stands}
+use Rattle.cc_simulation.proofs.Conversions.{constant_stands, conversion_stands, truth_stands, alone_stands}
+use Rattle.cc_simulation.proofs.Operators.{binary_stands, promoted_number}
+use Rattle.cc_simulation.proofs.Ranges.{number_of, narrowed_of, extended, widened_is, stored_is}
+use Rattle.cc_simulation.proofs.Steps.{did, stays, more, at_same, meant_same, ticks, binds}
 
 -- ---- what is printed
 

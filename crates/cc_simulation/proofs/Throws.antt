@@ -1,6 +1,6 @@
 -- An exception that an operator makes ends the run, since no method has a handler.
-use Rattle.std.proofs.Common.{◌≡◌, ℕ, zero, suc, ◌+◌, ◌-◌, List, [], ◌∷◌, ◌++◌, length, Bool, true, false, Option, Some, None, refl, sym, ap, ◌∙◌, subst, arith, slice_get, nat_lt}
-use Rattle.std.specs.Prelude.{Ok, Err, if◌then◌else◌, ⊤, ◌≢◌}
+use Rattle.std.proofs.Common.{◌≡◌, ℕ, List, [], ◌∷◌, ◌++◌, length, Bool, true, false, Option, Some, refl, sym, ap, ◌∙◌, subst, arith, slice_get, nat_lt}
+use Rattle.std.specs.Prelude.{Err, if◌then◌else◌, ⊤, ◌≢◌}
 use Rattle.cc_base.specs.declared.running.Ending.{Ending}
 use Rattle.cc_base.specs.declared.identifiers.ClassId.{ClassId}
 use Rattle.cc_base.specs.declared.running.Ending.TheVariants as ending
@@ -12,12 +12,12 @@ use Rattle.cc_core.specs.Run.{raise, exception, with_object, in_world}
 use Rattle.cc_core.specs.SourceRun as source
 use Rattle.cc_core.specs.SourceRun.{name_of, message_of, ended}
 use Rattle.cc_execution.specs.Links.{Link}
-use Rattle.cc_execution.specs.Handlers.{chain_at, catches, callers_catch, raise as unwinds, throw, throw_among, throw_made, with_world, aborted, aborts, uncaught}
+use Rattle.cc_execution.specs.Handlers.{catches, callers_catch, raise as unwinds, throw, throw_among, throw_made, with_world, aborted, aborts, uncaught}
 use Rattle.cc_execution.specs.Run.{runs, seen, seen_in}
 use Rattle.cc_execution.specs.State as machine
 use Rattle.cc_execution.specs.State.{Frame, Next, Goes, Ends, then_go}
 use Rattle.cc_simulation.specs.Sites.{Setting, Quiet, StandsAt}
-use Rattle.cc_simulation.specs.Stretches.{Stands, Shows, stopped}
+use Rattle.cc_simulation.specs.Stretches.{stopped}
 use Rattle.cc_simulation.specs.Values.{IsArithmetic}
 
 abbrev pub Right : source.Finish → Type 0

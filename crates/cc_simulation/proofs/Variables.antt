@@ -1,5 +1,5 @@
 -- The variables of a function: which instructions load and store them, and what they hold at first.
-use Rattle.std.proofs.Common.{◌≡◌, ℕ, zero, suc, ◌+◌, ◌-◌, ◌*◌, ◌%◌, ◌<◌, ◌≤◌, ◌^◌, ◌⊎◌, inl, inr, List, [], ◌∷◌, ◌++◌, map, length, drop, Bool, true, false, Option, Some, None, refl, sym, ap, ◌∙◌, subst, arith, slice_get, nat_lt, lt-ltb, le-ltb, length-append}
+use Rattle.std.proofs.Common.{◌≡◌, ℕ, zero, suc, ◌+◌, ◌-◌, ◌%◌, ◌<◌, ◌≤◌, ◌^◌, ◌⊎◌, inl, inr, List, [], ◌∷◌, ◌++◌, map, length, drop, Bool, true, false, Option, Some, refl, sym, ap, ◌∙◌, subst, arith, slice_get, lt-ltb, le-ltb}
 use Rattle.std.specs.Prelude.{if◌then◌else◌, option_map, ⊤}
 use Rattle.std.proofs.lemmas.Bool.{cases_lt}
 use Rattle.std.proofs.lemmas.Option.{same_Some}
@@ -13,12 +13,11 @@ use Rattle.cc_core.specs.Typed.{is_number, AreNumbers}
 use Rattle.cc_core.specs.Types.{BareType, bare}
 use Rattle.cc_code.specs.declared.tokens.Tokens.{Tokens}
 use Rattle.cc_code.specs.Operators.{index, load, store}
-use Rattle.cc_execution.specs.declared.executable.Method.{Method}
 use Rattle.cc_execution.specs.declared.operation.FundamentalType.{FundamentalType}
 use Rattle.cc_execution.specs.declared.operation.FundamentalType.TheVariants as to
 use Rattle.cc_execution.specs.declared.operation.Operation.TheVariants as does
-use Rattle.cc_execution.specs.Fundamental.{core_type, stored, stored_each, zero_of, both}
-use Rattle.cc_execution.specs.Operations.{Names, names_in, with_type, loaded, argument, argument_from, local, resolve}
+use Rattle.cc_execution.specs.Fundamental.{core_type, stored_each, zero_of, both}
+use Rattle.cc_execution.specs.Operations.{names_in, loaded, argument, argument_from, local, resolve}
 use Rattle.cc_execution.specs.Step.{zeros_of}
 use Rattle.cc_region.specs.declared.tree.RegionFunction.{RegionFunction}
 use Rattle.cc_simulation.specs.Compiled.{Compiled}

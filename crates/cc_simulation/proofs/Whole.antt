@@ -1,5 +1,5 @@
 -- Whole runs: what the program means, the module does, and what the module does, the program means.
-use Rattle.std.proofs.Common.{◌≡◌, ◌≢◌, ℕ, zero, suc, ◌+◌, ◌-◌, ◌*◌, ◌<◌, ◌≤◌, ◌⊎◌, inl, inr, List, [], ◌∷◌, ◌++◌, Bool, true, false, Option, Some, None, refl, sym, ap, ◌∙◌, subst, arith, slice_get, nat_lt, lt-ltb, le-ltb}
+use Rattle.std.proofs.Common.{◌≡◌, ◌≢◌, ℕ, zero, suc, ◌+◌, ◌-◌, ◌<◌, ◌≤◌, ◌⊎◌, inl, inr, List, [], ◌∷◌, Bool, true, false, Option, Some, None, refl, sym, ap, ◌∙◌, subst, arith, slice_get, nat_lt, lt-ltb, le-ltb}
 use Rattle.std.specs.Prelude.{Ok, Err, if◌then◌else◌, ⊤}
 use Rattle.std.specs.Int.{w32, cast_signed}
 use Rattle.std.proofs.lemmas.Bool.{cases_lt}
@@ -13,7 +13,7 @@ use Rattle.cc_core.specs.declared.state.Stop.{Stop}
 use Rattle.cc_core.specs.declared.state.Stop.TheVariants.{Throws, HeapLimit, DepthLimit, Going, Wrong}
 use Rattle.cc_core.specs.declared.types.ClassInfo.{ClassInfo}
 use Rattle.cc_core.specs.declared.world.Object.{Object}
-use Rattle.cc_core.specs.declared.world.Value.{Value, Int32}
+use Rattle.cc_core.specs.declared.world.Value.{Value}
 use Rattle.cc_core.specs.declared.world.World.{World}
 use Rattle.cc_core.specs.Run.{Ran}
 use Rattle.cc_core.specs.SourceRun as source
@@ -27,21 +27,20 @@ use Rattle.cc_execution.specs.declared.executable.Method.{Method}
 use Rattle.cc_execution.specs.declared.operation.FundamentalType.{FundamentalType}
 use Rattle.cc_execution.specs.declared.operation.FundamentalType.TheVariants as to
 use Rattle.cc_execution.specs.declared.operation.Operation.TheVariants as does
-use Rattle.cc_execution.specs.Handlers.{go_on}
 use Rattle.cc_execution.specs.Operations.{loaded}
 use Rattle.cc_execution.specs.Run as machine
 use Rattle.cc_execution.specs.Run.{Seen, seen, seen_in, runs, first_world, with_variables, begin_entry, begin}
 use Rattle.cc_execution.specs.State as states
 use Rattle.cc_execution.specs.State.{Next, Goes, Ends, Stuck, then_go}
-use Rattle.cc_execution.specs.Step.{given, act, zeros_of, step, return_result, return_last}
+use Rattle.cc_execution.specs.Step.{given, act, step, return_result, return_last}
 use Rattle.cc_region.specs.declared.tree.RegionFunction.{RegionFunction}
 use Rattle.cc_region.specs.declared.tree.RegionParts.{RegionParts}
 use Rattle.cc_region.specs.Frames.{calls_with}
-use Rattle.cc_simulation.specs.Behaves.{budget, Same, meant, Behaves, setting, CompiledEntry, IsCompiled, ProgramsBehave}
+use Rattle.cc_simulation.specs.Behaves.{budget, Same, meant, setting, CompiledEntry, IsCompiled, ProgramsBehave}
 use Rattle.cc_simulation.specs.Compiled.{site_of, CompiledProgram}
-use Rattle.cc_simulation.specs.Sites.{Setting, Site, StandsAt, HasAt, Good, go, state_at, placed}
-use Rattle.cc_simulation.specs.Stretches.{Stands, Got, Comes, Shows, least, stopped}
-use Rattle.cc_simulation.specs.Values.{IsOf, pushed}
+use Rattle.cc_simulation.specs.Sites.{Setting, Site, StandsAt, go, state_at}
+use Rattle.cc_simulation.specs.Stretches.{Stands, Got, least, stopped}
+use Rattle.cc_simulation.specs.Values.{IsOf}
 use Rattle.cc_simulation.proofs.Calls.{calls_stand}
 use Rattle.cc_simulation.proofs.Ranges.{stored_is}
 use Rattle.cc_simulation.proofs.Steps.{did, stays, more, at_same, meant_same, onward}

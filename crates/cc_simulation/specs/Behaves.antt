@@ -3,7 +3,7 @@
 --   Same means seen          a run of the module has printed, told and ended as a run of the program
 --   Behaves program x ..     the module does what the program means, for one input and within one set of limits
 --   ProgramsBehave           so does each module in which the code of a program's functions stands
-use Rattle.std.specs.Prelude.{◌≡◌, ◌≢◌, ℕ, ◌+◌, ◌*◌, ◌≤◌, List, [], ◌∷◌, Option, Some, slice_get}
+use Rattle.std.specs.Prelude.{◌≡◌, ◌≢◌, ℕ, ◌+◌, ◌*◌, ◌≤◌, List, [], ◌∷◌, Some, slice_get}
 use Rattle.cc_base.specs.declared.identifiers.MethodId.{MethodId}
 use Rattle.cc_base.specs.declared.running.Ending.{Ending}
 use Rattle.cc_base.specs.declared.running.Limits.{Limits}

@@ -2,7 +2,7 @@
 --   function_site ..          where the code of a function stands that runs
 --   Compiled set tokens f n   the method at a place is the function's: its variables are of its types, and its code is the function's
 --   CompiledProgram ..        so is each function that is called, and no method has a handler
-use Rattle.std.specs.Prelude.{◌≡◌, ℕ, ◌<◌, ◌^◌, List, [], ◌∷◌, ◌++◌, map, length, Option, Some, None, slice_get}
+use Rattle.std.specs.Prelude.{◌≡◌, ℕ, ◌<◌, ◌^◌, List, [], ◌++◌, map, length, Option, Some, None, slice_get}
 use Rattle.cc_base.specs.declared.identifiers.MethodId.{MethodId}
 use Rattle.cc_cil.specs.declared.instruction.Instruction.TheVariants as the
 use Rattle.cc_core.specs.declared.library_call.LibraryCall.{LibraryCall}

@@ -4,7 +4,7 @@
 --   Low around                         the targets have offsets of 31 bits
 --   Returns h result returns           what the instruction `ret` leads to
 --   AreSmall..                         the bits of each constant fit 64 bits
-use Rattle.std.specs.Prelude.{◌≡◌, ℕ, ◌<◌, ◌^◌, List, [], ◌∷◌, length, Option, Some, None, slice_get, ⊤}
+use Rattle.std.specs.Prelude.{◌≡◌, ℕ, ◌<◌, ◌^◌, List, [], ◌∷◌, length, Some, slice_get, ⊤}
 use Rattle.cc_core.specs.declared.tree.SwitchLabel.{SwitchLabel}
 use Rattle.cc_core.specs.declared.tree.SwitchLabel.TheVariants.{Case, Default}
 use Rattle.cc_core.specs.declared.world.Value.{Value}
