@@ -1,0 +1,10 @@
+pub mod Appending
+pub mod Bodies
+pub mod Cells
+pub mod Files
+pub mod MetadataSize
+pub mod Named
+pub mod Pushes
+pub mod Ranges
+pub mod SignatureBytes
+pub mod Storable
