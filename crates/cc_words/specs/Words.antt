@@ -9,7 +9,7 @@ use Rattle.std.specs.Str.Parse.{starts_with_minus, digits_value}
 use Rattle.clap.specs.Simple.{App}
 use Rattle.cc_words.specs.Options.{with_option, are_read, value_in, option_in}
 use Rattle.cc_words.specs.declared.command.Command.{Command}
-use Rattle.cc_words.specs.declared.command.Command.TheVariants.{Run, Check, Build, Dump, Mean}
+use Rattle.cc_words.specs.declared.command.Command.TheVariants.{Run, Check, Build, Dump, Verify, Mean}
 
 -- A command, the name of its file, the instructions that a program may execute or the turns that each run of a loop may make, and the arguments of the program.
 pub record CommandLine : Type 0 where
@@ -28,6 +28,7 @@ command_named word =
     else if bytes_eq word (codes "check") then Some Check
     else if bytes_eq word (codes "build") then Some Build
     else if bytes_eq word (codes "dump") then Some Dump
+    else if bytes_eq word (codes "verify") then Some Verify
     else if bytes_eq word (codes "mean") then Some Mean
     else None
 
@@ -41,6 +42,7 @@ option_named Run = Some (codes "steps")
 option_named Check = None
 option_named Build = None
 option_named Dump = None
+option_named Verify = None
 option_named Mean = Some (codes "turns")
 
 -- a command that executes has such an option, and arguments
@@ -87,6 +89,7 @@ bound_untold Run = Some default_steps
 bound_untold Check = Some default_steps
 bound_untold Build = Some default_steps
 bound_untold Dump = Some default_steps
+bound_untold Verify = Some default_steps
 bound_untold Mean = None
 
 abbrev pub bound_given : Command → Option (List ℕ) → Option ℕ

@@ -11,6 +11,8 @@ pub enum Command {
     Build,
     /// Prints the listing of an image.
     Dump,
+    /// Verifies an image.
+    Verify,
     /// Compiles a file and executes the meaning of its source.
     Mean,
 }

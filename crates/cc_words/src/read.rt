@@ -21,6 +21,7 @@ fn command_named(word: &str) -> Option<Command>
         "check" => Some(Command::Check),
         "build" => Some(Command::Build),
         "dump" => Some(Command::Dump),
+        "verify" => Some(Command::Verify),
         "mean" => Some(Command::Mean),
         _ => None,
     }
@@ -33,7 +34,7 @@ fn option_named(command: Command) -> Option<&'static str>
     match command {
         Command::Run => Some("steps"),
         Command::Mean => Some("turns"),
-        Command::Check | Command::Build | Command::Dump => None,
+        Command::Check | Command::Build | Command::Dump | Command::Verify => None,
     }
 }
 
@@ -42,7 +43,7 @@ fn executes(command: Command) -> bool
 {
     match command {
         Command::Run | Command::Mean => true,
-        Command::Check | Command::Build | Command::Dump => false,
+        Command::Check | Command::Build | Command::Dump | Command::Verify => false,
     }
 }
 
@@ -138,7 +139,9 @@ fn bound_untold(command: Command) -> Option<u32>
     ensures { result ≡ spec.bound_untold command }
 {
     match command {
-        Command::Run | Command::Check | Command::Build | Command::Dump => Some(DEFAULT_STEPS),
+        Command::Run | Command::Check | Command::Build | Command::Dump | Command::Verify => Some(
+            DEFAULT_STEPS,
+        ),
         Command::Mean => None,
     }
 }

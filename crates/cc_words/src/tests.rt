@@ -32,6 +32,7 @@ fn words_are_commands_or_none(rt: HostRuntime) -> Result<(), Fail> {
         ("check x.cpp", Some((Command::Check, 50_000_000, 0))),
         ("build x.cpp", Some((Command::Build, 50_000_000, 0))),
         ("dump x.cpp", Some((Command::Dump, 50_000_000, 0))),
+        ("verify x.cpp", Some((Command::Verify, 50_000_000, 0))),
         ("mean x.cpp --turns 0", Some((Command::Mean, 0, 0))),
         (
             "mean --turns=100 x.cpp -- a b",
@@ -56,6 +57,9 @@ fn words_are_commands_or_none(rt: HostRuntime) -> Result<(), Fail> {
         ("run x.cpp --steps 5 --steps 5", None),
         ("check x.cpp --steps 5", None),
         ("build x.cpp --", None),
+        ("verify x.cpp -- a", None),
+        ("verify --steps=5 x.cpp", None),
+        ("verify", None),
         ("stop x.cpp", None),
     ];
     for (line, expected) in table {

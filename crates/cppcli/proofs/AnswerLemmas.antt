@@ -5,7 +5,7 @@ use Rattle.cc_base.specs.Outside.{StreamState, GivesSame}
 use Rattle.cc_base.proofs.Streams.{gains_nothing}
 use Rattle.cc_words.specs.Words.{CommandLine, command_line, first_command, command_named, line_behind}
 use Rattle.cc_words.specs.declared.command.Command.{Command}
-use Rattle.cc_words.specs.declared.command.Command.TheVariants.{Run, Check, Build, Dump, Mean}
+use Rattle.cc_words.specs.declared.command.Command.TheVariants.{Run, Check, Build, Dump, Verify, Mean}
 use Rattle.cppcli.specs.Answers.{FilesRun, SinksRun, KeepsFiles, IsOutcomeOf, IsDelivered, IsAnswer, stopped}
 use Rattle.cppcli.specs.declared.outcome.Outcome.{Outcome}
 use Rattle.cppcli.specs.declared.status.Status.{Status}
@@ -20,6 +20,7 @@ keeps_same (Some line) run status same = by line.command line.file line.bound li
     by Run file bound arguments = same
     by Check file bound arguments = same
     by Dump file bound arguments = same
+    by Verify file bound arguments = same
     by Mean file bound arguments = same
     by Build file bound arguments = (λ name other. same name, λ _ _. same)
 

@@ -16,22 +16,26 @@ use Rattle.cc_straight.specs.Reading as straight
 use Rattle.cc_mean.specs.Ends.{end_of}
 use Rattle.cc_emit.specs.Program.{image_limit}
 use Rattle.cc_image.specs.declared.fault.ImageFault.{ImageFault}
+use Rattle.cc_module.specs.declared.module.Module.{Module}
+use Rattle.cc_verify.specs.Verified.{FirstFault}
+use Rattle.cc_verify.specs.declared.fault.VerifyFault.{VerifyFault}
 use Rattle.cc_straight.specs.Executing.{run_length}
 use Rattle.cc_words.specs.Words.{CommandLine, command_line, first_command}
 use Rattle.cc_words.specs.declared.command.Command.{Command}
-use Rattle.cc_words.specs.declared.command.Command.TheVariants.{Run, Check, Build, Dump, Mean}
-use Rattle.cppcli.specs.Answers.{FilesRun, SinksRun, AfterCompile, AfterImage, AfterLoad, AfterTyping, IsBuilt, IsListed, IsExecuted, IsLoadFault, IsOutcome, IsOutcomeOf, IsOutcomeFor, IsDelivered, IsWritten, IsAnswer, arguments_of, image_name, longest_run, meaning_of, meant, meant_status, source_limit, program_limits, status_of}
+use Rattle.cc_words.specs.declared.command.Command.TheVariants.{Run, Check, Build, Dump, Verify, Mean}
+use Rattle.cppcli.specs.Answers.{FilesRun, SinksRun, AfterCompile, AfterImage, AfterLoad, AfterTyping, AfterVerifier, IsBuilt, IsListed, IsExecuted, IsLoadFault, IsNoImage, IsOutcome, IsOutcomeOf, IsOutcomeFor, IsDelivered, IsWritten, IsAnswer, arguments_of, done, image_name, longest_run, meaning_of, meant, meant_status, source_limit, program_limits, status_of}
 use Rattle.cppcli.specs.Complete.{IsMade, IsResult}
-use Rattle.cppcli.specs.Rows.{limit_of, AcceptedFrom, DoneFrom, ForCommand, GoingRow, ListedFrom, NoImageFrom, NotImageRow, RefusedFrom, RefusesFor, EndedFrom, Ends, TypedFrom, StoreFails, UsageRow, AbsentRow, ReadFaultRow, WriteFaultRow, TooLongRow, RefusedRow, EndedRow, StepLimitRow, MemoryRow, AnswerTable, DoneRow}
+use Rattle.cppcli.specs.Rows.{limit_of, AcceptedFrom, DoneFrom, ForCommand, GoingRow, ListedFrom, ModuleFrom, NoImageFrom, NotImageRow, RefusedFrom, RefusesFor, EndedFrom, Ends, TypedFrom, StoreFails, UsageRow, AbsentRow, ReadFaultRow, WriteFaultRow, TooLongRow, RefusedRow, EndedRow, StepLimitRow, MemoryRow, UnverifiedRow, AnswerTable, DoneRow, reads_image}
 use Rattle.cppcli.specs.declared.outcome.Outcome.{Outcome}
 use Rattle.cppcli.specs.declared.status.Status.{Status}
-use Rattle.cppcli.specs.declared.status.Status.TheVariants.{Done, Ended, Usage, Absent, ReadFault, WriteFault, TooLong, Refused, NotImage, Aborted, HeapLimit, DepthLimit, StepLimit, Going, Memory}
+use Rattle.cppcli.specs.declared.status.Status.TheVariants.{Done, Ended, Usage, Absent, ReadFault, WriteFault, TooLong, Refused, NotImage, Unverified, Aborted, HeapLimit, DepthLimit, StepLimit, Going, Memory}
 
 -- where a status comes from
 data Stage : Type 0 where
   at_load : Stage
   at_compilation : Stage
   at_image : Stage
+  at_verifier : Stage
   at_execution : Stage
   at_meaning : Stage
   at_store : Stage
@@ -44,6 +48,7 @@ stage_of ReadFault = at_load
 stage_of TooLong = at_load
 stage_of (Refused kind span) = at_compilation
 stage_of (NotImage fault) = at_image
+stage_of (Unverified fault) = at_verifier
 stage_of (Ended number) = at_execution
 stage_of (Aborted type message) = at_execution
 stage_of HeapLimit = at_execution
@@ -60,6 +65,7 @@ abbrev is_late : Stage → Bool
 is_late at_load = false
 is_late at_compilation = false
 is_late at_image = false
+is_late at_verifier = false
 is_late at_execution = true
 is_late at_meaning = true
 is_late at_store = true
@@ -117,6 +123,7 @@ late Check file bound arguments run source outcome is = absurd is
 late Build file bound arguments run source outcome (bytes, image, inl (rose, loud, is)) = ap (λ (o : Outcome). is_late (stage_of o.status)) is
 late Build file bound arguments run source outcome (bytes, image, inr (kept, is)) = ap (λ (o : Outcome). is_late (stage_of o.status)) is
 late Dump file bound arguments run source outcome is = absurd is
+late Verify file bound arguments run source outcome is = absurd is
 late Mean file bound arguments run source outcome is = absurd is
 
 late_end : (end : Option Ending) → is_late (stage_of (meant_status end)) ≡ true
@@ -133,6 +140,7 @@ late_made Run file bound arguments program outcome is = absurd is
 late_made Check file bound arguments program outcome is = ap (λ (o : Outcome). is_late (stage_of o.status)) is
 late_made Build file bound arguments program outcome is = absurd is
 late_made Dump file bound arguments program outcome is = absurd is
+late_made Verify file bound arguments program outcome is = absurd is
 late_made Mean file bound arguments program outcome is =
     let run = meaning_of program (arguments_of (record { command = Mean; file = file; bound = bound; arguments = arguments })) bound in
     ap (λ (o : Outcome). is_late (stage_of o.status)) is ∙ late_end (end_of run.finish)
@@ -148,6 +156,7 @@ reads Run = as_source
 reads Check = as_program
 reads Build = as_source
 reads Dump = as_image
+reads Verify = as_image
 reads Mean = as_program
 
 -- the steps of the commands that compile a source
@@ -158,34 +167,92 @@ Compiled line run outcome = AfterLoad run run.before line.file source_limit outc
 abbrev pub Typed : CommandLine → FilesRun → Outcome → Type 0
 Typed line run outcome = AfterLoad run run.before line.file source_limit outcome (λ bytes. AfterTyping line.file bytes outcome (λ program. IsMade line program outcome))
 
--- those of the one that reads an image
-abbrev pub Listed : CommandLine → FilesRun → Outcome → Type 0
-Listed line run outcome = AfterLoad run run.before line.file image_limit outcome (λ bytes. AfterImage line.file bytes outcome (λ m. IsListed m outcome))
+-- what a command makes of a module that it reads: its listing, or the word of the verifier
+abbrev pub IsShown : CommandLine → Module → Outcome → Type 0
+IsShown line m outcome = by line.command
+  where
+    by : Command → Type 0
+    by Run = ⊥
+    by Check = ⊥
+    by Build = ⊥
+    by Dump = IsListed m outcome
+    by Verify = AfterVerifier m line.file outcome (outcome ≡ done)
+    by Mean = ⊥
+
+-- those of the commands that read an image
+abbrev pub Shown : CommandLine → FilesRun → Outcome → Type 0
+Shown line run outcome = AfterLoad run run.before line.file image_limit outcome (λ bytes. AfterImage line.file bytes outcome (λ m. IsShown line m outcome))
 
 -- the steps that a command has
 pub data Due (line : CommandLine) (run : FilesRun) (outcome : Outcome) : Type 0 where
   compiled : reads line.command ≡ as_source → Compiled line run outcome → Due line run outcome
   typed : reads line.command ≡ as_program → Typed line run outcome → Due line run outcome
-  listed : line.command ≡ Dump → Listed line run outcome → Due line run outcome
+  shown : reads line.command ≡ as_image → Shown line run outcome → Due line run outcome
 
 pub due_of : (command : Command) (file : List ℕ) (bound : ℕ) (arguments : List (List ℕ)) (run : FilesRun) (outcome : Outcome)
     → IsOutcomeOf (record { command = command; file = file; bound = bound; arguments = arguments }) run outcome → Due (record { command = command; file = file; bound = bound; arguments = arguments }) run outcome
 due_of Run file bound arguments run outcome is = compiled refl is
 due_of Check file bound arguments run outcome is = typed refl is
 due_of Build file bound arguments run outcome is = compiled refl is
-due_of Dump file bound arguments run outcome is = listed refl is
+due_of Dump file bound arguments run outcome is = shown refl is
+due_of Verify file bound arguments run outcome is = shown refl is
 due_of Mean file bound arguments run outcome is = typed refl is
 
+-- the stages behind an image
+abbrev is_of_module : Stage → Bool
+is_of_module at_verifier = true
+is_of_module at_end = true
+is_of_module stage = false
+
+-- and those of an image
+abbrev is_of_image : Stage → Bool
+is_of_image at_image = true
+is_of_image stage = is_of_module stage
+
+-- those that no other command has
+abbrev is_image_alone : Stage → Bool
+is_image_alone at_image = true
+is_image_alone at_verifier = true
+is_image_alone stage = false
+
+image_of_module : (stage : Stage) → is_of_module stage ≡ true → is_of_image stage ≡ true
+image_of_module at_verifier is = refl
+image_of_module at_end is = refl
+image_of_module stage is = absurd cc
+
+late_no_image : (stage : Stage) → is_late stage ≡ true → is_image_alone stage ≡ false
+late_no_image at_execution is = refl
+late_no_image at_meaning is = refl
+late_no_image at_store is = refl
+late_no_image at_end is = refl
+late_no_image stage is = absurd cc
+
+-- a late stage of an image is the end
+late_at_end : (stage : Stage) → is_of_image stage ≡ true → is_late stage ≡ true → stage ≡ at_end
+late_at_end at_end is behind = refl
+late_at_end stage is behind = absurd cc
+
+stage_of_module : (command : Command) (file : List ℕ) (bound : ℕ) (arguments : List (List ℕ)) (m : Module) (outcome : Outcome)
+    → IsShown (record { command = command; file = file; bound = bound; arguments = arguments }) m outcome → is_of_module (stage_of outcome.status) ≡ true
+stage_of_module Run file bound arguments m outcome is = absurd is
+stage_of_module Check file bound arguments m outcome is = absurd is
+stage_of_module Build file bound arguments m outcome is = absurd is
+stage_of_module Dump file bound arguments m outcome is = ap (λ (o : Outcome). is_of_module (stage_of o.status)) is.2
+stage_of_module Verify file bound arguments m outcome (inl broken) = ap (λ (o : Outcome). is_of_module (stage_of o.status)) broken.2
+stage_of_module Verify file bound arguments m outcome (inr kept) = ap (λ (o : Outcome). is_of_module (stage_of o.status)) kept.1
+stage_of_module Mean file bound arguments m outcome is = absurd is
+
 -- where the stage of the outcome of an image is
-stage_of_image : (line : CommandLine) (bytes : List ℕ) (outcome : Outcome) → AfterImage line.file bytes outcome (λ m. IsListed m outcome) → (stage_of outcome.status ≡ at_image) ⊎ (stage_of outcome.status ≡ at_end)
-stage_of_image line bytes outcome (inl none) = inl (ap (λ (o : Outcome). stage_of o.status) none.2)
-stage_of_image line bytes outcome (inr found) = inr (ap (λ (o : Outcome). stage_of o.status) found.2.2)
+stage_of_image : (line : CommandLine) (bytes : List ℕ) (outcome : Outcome) → AfterImage line.file bytes outcome (λ m. IsShown line m outcome) → is_of_image (stage_of outcome.status) ≡ true
+stage_of_image line bytes outcome (inl none) = ap (λ (o : Outcome). is_of_image (stage_of o.status)) none.2
+stage_of_image line bytes outcome (inr found) = image_of_module (stage_of outcome.status) (stage_of_module line.command line.file line.bound line.arguments found.0 outcome found.2)
 
 compiled_limit : (command : Command) → reads command ≡ as_source → limit_of command ≡ source_limit
 compiled_limit Run is = refl
 compiled_limit Check is = absurd cc
 compiled_limit Build is = refl
 compiled_limit Dump is = absurd cc
+compiled_limit Verify is = absurd cc
 compiled_limit Mean is = absurd cc
 
 typed_limit : (command : Command) → reads command ≡ as_program → limit_of command ≡ source_limit
@@ -193,7 +260,24 @@ typed_limit Run is = absurd cc
 typed_limit Check is = refl
 typed_limit Build is = absurd cc
 typed_limit Dump is = absurd cc
+typed_limit Verify is = absurd cc
 typed_limit Mean is = refl
+
+shown_limit : (command : Command) → reads command ≡ as_image → limit_of command ≡ image_limit
+shown_limit Run is = absurd cc
+shown_limit Check is = absurd cc
+shown_limit Build is = absurd cc
+shown_limit Dump is = refl
+shown_limit Verify is = refl
+shown_limit Mean is = absurd cc
+
+shown_reads : (command : Command) → reads command ≡ as_image → reads_image command ≡ true
+shown_reads Run is = absurd cc
+shown_reads Check is = absurd cc
+shown_reads Build is = absurd cc
+shown_reads Dump is = refl
+shown_reads Verify is = refl
+shown_reads Mean is = absurd cc
 
 -- an outcome by its stage
 at_its_load : (line : CommandLine) (run : FilesRun) (outcome : Outcome) → stage_of outcome.status ≡ at_load → Due line run outcome → IsLoadFault run run.before line.file (limit_of line.command) outcome.status
@@ -207,14 +291,15 @@ at_its_load line run outcome at (typed reads_it (inr loaded)) = absurd (elim loa
   | inl refused ↦ let due : outcome.status ≡ Refused refused.0 refused.1 = ap status_of_outcome refused.3 in let stage : stage_of outcome.status ≡ at_compilation = ap stage_of due in cc
   | inr accepted ↦ let behind = late_made line.command line.file line.bound line.arguments accepted.0 outcome accepted.2 in let before : is_late (stage_of outcome.status) ≡ false = ap is_late at in cc
 ])
-at_its_load line run outcome at (listed is (inl fault)) = subst (λ (n : ℕ). IsLoadFault run run.before line.file n outcome.status) (sym (ap limit_of is)) fault.0
-at_its_load line run outcome at (listed is (inr read)) = absurd (elim (stage_of_image line read.0 outcome read.3) [ inl none ↦ cc | inr found ↦ cc ])
+at_its_load line run outcome at (shown reads_it (inl fault)) = subst (λ (n : ℕ). IsLoadFault run run.before line.file n outcome.status) (sym (shown_limit line.command reads_it)) fault.0
+at_its_load line run outcome at (shown reads_it (inr read)) = absurd (let behind = stage_of_image line read.0 outcome read.3 in let before : is_of_image (stage_of outcome.status) ≡ false = ap is_of_image at in cc)
 
 compiled_refusal : (command : Command) (bytes : List ℕ) (kind : Kind) (span : Span) → reads command ≡ as_source → straight.Refuses straight.execution bytes kind span → RefusesFor command bytes kind span
 compiled_refusal Run bytes kind span is refused = refused
 compiled_refusal Check bytes kind span is refused = absurd cc
 compiled_refusal Build bytes kind span is refused = refused
 compiled_refusal Dump bytes kind span is refused = absurd cc
+compiled_refusal Verify bytes kind span is refused = absurd cc
 compiled_refusal Mean bytes kind span is refused = absurd cc
 
 typed_refusal : (command : Command) (bytes : List ℕ) (kind : Kind) (span : Span) → reads command ≡ as_program → front.Refuses bytes kind span → RefusesFor command bytes kind span
@@ -222,6 +307,7 @@ typed_refusal Run bytes kind span is refused = absurd cc
 typed_refusal Check bytes kind span is refused = refused
 typed_refusal Build bytes kind span is refused = absurd cc
 typed_refusal Dump bytes kind span is refused = absurd cc
+typed_refusal Verify bytes kind span is refused = absurd cc
 typed_refusal Mean bytes kind span is refused = refused
 
 at_its_compilation : (line : CommandLine) (run : FilesRun) (outcome : Outcome) (kind : Kind) (span : Span) → outcome.status ≡ Refused kind span → Due line run outcome → RefusedFrom run line kind span
@@ -243,28 +329,62 @@ at_its_compilation line run outcome kind span is (typed reads_it (inr loaded)) =
       (loaded.0, loaded.1, loaded.2, typed_refusal line.command loaded.0 kind span reads_it (rw (← kinds, ← spans) refused.2))
   | inr accepted ↦ absurd (let behind = late_made line.command line.file line.bound line.arguments accepted.0 outcome accepted.2 in let before : is_late (stage_of outcome.status) ≡ false = ap (λ (s : Status). is_late (stage_of s)) is in cc)
 ]
-at_its_compilation line run outcome kind span is (listed dump (inl fault)) = absurd (let at : stage_of outcome.status ≡ at_load = stage_of_load run run.before line.file image_limit outcome.status fault.0 in let stage : stage_of outcome.status ≡ at_compilation = ap stage_of is in cc)
-at_its_compilation line run outcome kind span is (listed dump (inr read)) = absurd (let stage : stage_of outcome.status ≡ at_compilation = ap stage_of is in elim (stage_of_image line read.0 outcome read.3) [ inl none ↦ cc | inr found ↦ cc ])
+at_its_compilation line run outcome kind span is (shown reads_it (inl fault)) = absurd (let at : stage_of outcome.status ≡ at_load = stage_of_load run run.before line.file image_limit outcome.status fault.0 in let stage : stage_of outcome.status ≡ at_compilation = ap stage_of is in cc)
+at_its_compilation line run outcome kind span is (shown reads_it (inr read)) = absurd (let behind = stage_of_image line read.0 outcome read.3 in let before : is_of_image (stage_of outcome.status) ≡ false = ap (λ (s : Status). is_of_image (stage_of s)) is in cc)
 
-at_its_image : (line : CommandLine) (run : FilesRun) (outcome : Outcome) (fault : ImageFault) → outcome.status ≡ NotImage fault → Due line run outcome → (line.command ≡ Dump) × NoImageFrom run line.file fault
-at_its_image line run outcome fault is (compiled reads_it (inl failed)) = absurd (let at : stage_of outcome.status ≡ at_load = stage_of_load run run.before line.file source_limit outcome.status failed.0 in let stage : stage_of outcome.status ≡ at_image = ap stage_of is in cc)
-at_its_image line run outcome fault is (compiled reads_it (inr loaded)) = absurd (elim loaded.3 [
-  | inl refused ↦ let stage : stage_of outcome.status ≡ at_image = ap stage_of is in let at : stage_of outcome.status ≡ at_compilation = ap (λ (o : Outcome). stage_of o.status) refused.3 in cc
-  | inr accepted ↦ let behind = late line.command line.file line.bound line.arguments run accepted.0.0 outcome (accepted.1 accepted.0.0 accepted.0.1) in let before : is_late (stage_of outcome.status) ≡ false = ap (λ (s : Status). is_late (stage_of s)) is in cc
+-- what only an image decides is of a command that reads one
+image_read : (line : CommandLine) (run : FilesRun) (outcome : Outcome) → is_image_alone (stage_of outcome.status) ≡ true → Due line run outcome
+    → (reads line.command ≡ as_image) × (bytes : List ℕ) × Holds run.before line.file bytes × (length bytes ≤ image_limit) × AfterImage line.file bytes outcome (λ m. IsShown line m outcome)
+image_read line run outcome alone (compiled reads_it (inl fault)) = absurd (let at : is_image_alone (stage_of outcome.status) ≡ false = ap is_image_alone (stage_of_load run run.before line.file source_limit outcome.status fault.0) in cc)
+image_read line run outcome alone (compiled reads_it (inr loaded)) = absurd (elim loaded.3 [
+  | inl refused ↦ let at : is_image_alone (stage_of outcome.status) ≡ false = ap (λ (o : Outcome). is_image_alone (stage_of o.status)) refused.3 in cc
+  | inr accepted ↦ let at = late_no_image (stage_of outcome.status) (late line.command line.file line.bound line.arguments run accepted.0.0 outcome (accepted.1 accepted.0.0 accepted.0.1)) in cc
 ])
-at_its_image line run outcome fault is (typed reads_it (inl failed)) = absurd (let at : stage_of outcome.status ≡ at_load = stage_of_load run run.before line.file source_limit outcome.status failed.0 in let stage : stage_of outcome.status ≡ at_image = ap stage_of is in cc)
-at_its_image line run outcome fault is (typed reads_it (inr loaded)) = absurd (elim loaded.3 [
-  | inl refused ↦ let stage : stage_of outcome.status ≡ at_image = ap stage_of is in let at : stage_of outcome.status ≡ at_compilation = ap (λ (o : Outcome). stage_of o.status) refused.3 in cc
-  | inr accepted ↦ let behind = late_made line.command line.file line.bound line.arguments accepted.0 outcome accepted.2 in let before : is_late (stage_of outcome.status) ≡ false = ap (λ (s : Status). is_late (stage_of s)) is in cc
+image_read line run outcome alone (typed reads_it (inl fault)) = absurd (let at : is_image_alone (stage_of outcome.status) ≡ false = ap is_image_alone (stage_of_load run run.before line.file source_limit outcome.status fault.0) in cc)
+image_read line run outcome alone (typed reads_it (inr loaded)) = absurd (elim loaded.3 [
+  | inl refused ↦ let at : is_image_alone (stage_of outcome.status) ≡ false = ap (λ (o : Outcome). is_image_alone (stage_of o.status)) refused.3 in cc
+  | inr accepted ↦ let at = late_no_image (stage_of outcome.status) (late_made line.command line.file line.bound line.arguments accepted.0 outcome accepted.2) in cc
 ])
-at_its_image line run outcome fault is (listed dump (inl failed)) = absurd (let at : stage_of outcome.status ≡ at_load = stage_of_load run run.before line.file image_limit outcome.status failed.0 in let stage : stage_of outcome.status ≡ at_image = ap stage_of is in cc)
-at_its_image line run outcome fault is (listed dump (inr read)) = elim read.3 [
-  | inl none ↦
-      let own : outcome.status ≡ NotImage none.0 = ap status_of_outcome none.2 in
-      let faults : none.0 ≡ fault = cc in
-      (dump, (read.0, read.1, read.2, rw (← faults) none.1))
-  | inr found ↦ absurd (let stage : stage_of outcome.status ≡ at_image = ap stage_of is in let at : stage_of outcome.status ≡ at_end = ap (λ (o : Outcome). stage_of o.status) found.2.2 in cc)
-]
+image_read line run outcome alone (shown reads_it (inl fault)) = absurd (let at : is_image_alone (stage_of outcome.status) ≡ false = ap is_image_alone (stage_of_load run run.before line.file image_limit outcome.status fault.0) in cc)
+image_read line run outcome alone (shown reads_it (inr read)) = (reads_it, read.0, read.1, read.2, read.3)
+
+at_its_image : (line : CommandLine) (run : FilesRun) (outcome : Outcome) (fault : ImageFault) → outcome.status ≡ NotImage fault → Due line run outcome → (reads_image line.command ≡ true) × NoImageFrom run line.file fault
+at_its_image line run outcome fault is due =
+    let found = image_read line run outcome (ap (λ (s : Status). is_image_alone (stage_of s)) is) due in
+    elim found.4 [
+      | inl none ↦
+          let own : outcome.status ≡ NotImage none.0 = ap status_of_outcome none.2 in
+          let faults : none.0 ≡ fault = cc in
+          (shown_reads line.command found.0, (found.1, found.2, found.3, subst (λ (f : ImageFault). IsNoImage found.1 f) faults none.1))
+      | inr read ↦ absurd (
+          let behind = stage_of_module line.command line.file line.bound line.arguments read.0 outcome read.2 in
+          let before : is_of_module (stage_of outcome.status) ≡ false = ap (λ (s : Status). is_of_module (stage_of s)) is in cc)
+    ]
+
+-- a broken rule is the verifier's word
+broken_shown : (command : Command) (file : List ℕ) (bound : ℕ) (arguments : List (List ℕ)) (m : Module) (outcome : Outcome) (fault : VerifyFault) → outcome.status ≡ Unverified fault
+    → IsShown (record { command = command; file = file; bound = bound; arguments = arguments }) m outcome → (command ≡ Verify) × FirstFault m (Some fault)
+broken_shown Run file bound arguments m outcome fault status is = absurd is
+broken_shown Check file bound arguments m outcome fault status is = absurd is
+broken_shown Build file bound arguments m outcome fault status is = absurd is
+broken_shown Dump file bound arguments m outcome fault status is = absurd (let other : outcome.status ≡ Done = ap status_of_outcome is.2 in cc)
+broken_shown Verify file bound arguments m outcome fault status (inl broken) =
+    let own : outcome.status ≡ Unverified broken.0 = ap status_of_outcome broken.2 in
+    let faults : broken.0 ≡ fault = cc in
+    (refl, rw (← faults) broken.1)
+broken_shown Verify file bound arguments m outcome fault status (inr kept) = absurd (let other : outcome.status ≡ Done = ap status_of_outcome kept.1 in cc)
+broken_shown Mean file bound arguments m outcome fault status is = absurd is
+
+at_its_verifier : (line : CommandLine) (run : FilesRun) (outcome : Outcome) (fault : VerifyFault) → outcome.status ≡ Unverified fault → Due line run outcome
+    → (line.command ≡ Verify) × (m : Module) × ModuleFrom run line.file m × FirstFault m (Some fault)
+at_its_verifier line run outcome fault is due =
+    let found = image_read line run outcome (ap (λ (s : Status). is_image_alone (stage_of s)) is) due in
+    elim found.4 [
+      | inl none ↦ absurd (let other : outcome.status ≡ NotImage none.0 = ap status_of_outcome none.2 in cc)
+      | inr read ↦
+          let broken = broken_shown line.command line.file line.bound line.arguments read.0 outcome fault is read.2 in
+          (broken.0, read.0, (found.1, found.2, found.3, read.1), broken.1)
+    ]
 
 -- what a late outcome is of: a source that was compiled, or a program that was typed
 data Late (line : CommandLine) (run : FilesRun) (outcome : Outcome) : Type 0 where
@@ -286,8 +406,8 @@ at_its_result line run outcome behind before_end (compiled reads_it (inl fault))
 at_its_result line run outcome behind before_end (compiled reads_it (inr loaded)) = late_from line run outcome loaded.0 behind loaded.1 loaded.2 loaded.3
 at_its_result line run outcome behind before_end (typed reads_it (inl fault)) = absurd (let at : is_late (stage_of outcome.status) ≡ false = ap is_late (stage_of_load run run.before line.file source_limit outcome.status fault.0) in cc)
 at_its_result line run outcome behind before_end (typed reads_it (inr loaded)) = late_typed line run outcome loaded.0 behind loaded.1 loaded.2 loaded.3
-at_its_result line run outcome behind before_end (listed dump (inl fault)) = absurd (let at : is_late (stage_of outcome.status) ≡ false = ap is_late (stage_of_load run run.before line.file image_limit outcome.status fault.0) in cc)
-at_its_result line run outcome behind before_end (listed dump (inr read)) = absurd (elim (stage_of_image line read.0 outcome read.3) [ inl none ↦ let at : is_late (stage_of outcome.status) ≡ false = ap is_late none in cc | inr found ↦ before_end found ])
+at_its_result line run outcome behind before_end (shown reads_it (inl fault)) = absurd (let at : is_late (stage_of outcome.status) ≡ false = ap is_late (stage_of_load run run.before line.file image_limit outcome.status fault.0) in cc)
+at_its_result line run outcome behind before_end (shown reads_it (inr read)) = absurd (before_end (late_at_end (stage_of outcome.status) (stage_of_image line read.0 outcome read.3) behind))
 
 -- a command's outcome is neither about the words nor want of memory
 not_elsewhere : (line : CommandLine) (run : FilesRun) (outcome : Outcome) → Due line run outcome → stage_of outcome.status ≢ elsewhere
@@ -301,8 +421,8 @@ not_elsewhere line run outcome (typed reads_it (inr loaded)) is = elim loaded.3 
   | inl refused ↦ let at : stage_of outcome.status ≡ at_compilation = ap (λ (o : Outcome). stage_of o.status) refused.3 in cc
   | inr accepted ↦ let behind = late_made line.command line.file line.bound line.arguments accepted.0 outcome accepted.2 in let before : is_late (stage_of outcome.status) ≡ false = ap is_late is in cc
 ]
-not_elsewhere line run outcome (listed dump (inl fault)) is = let at : stage_of outcome.status ≡ at_load = stage_of_load run run.before line.file image_limit outcome.status fault.0 in cc
-not_elsewhere line run outcome (listed dump (inr read)) is = elim (stage_of_image line read.0 outcome read.3) [ inl none ↦ cc | inr found ↦ cc ]
+not_elsewhere line run outcome (shown reads_it (inl fault)) is = let at : stage_of outcome.status ≡ at_load = stage_of_load run run.before line.file image_limit outcome.status fault.0 in cc
+not_elsewhere line run outcome (shown reads_it (inr read)) is = let behind = stage_of_image line read.0 outcome read.3 in let before : is_of_image (stage_of outcome.status) ≡ false = ap is_of_image is in cc
 
 -- a status that is no write fault was due, and all was written
 written_of : (outcome : Outcome) (sinks : SinksRun) (answer : Status) → answer ≢ WriteFault → IsDelivered outcome sinks answer → IsWritten outcome sinks answer
@@ -399,6 +519,7 @@ stored_result Check file bound arguments run source outcome status is = absurd i
 stored_result Build file bound arguments run source outcome status (bytes, image, inl (rose, loud, is)) = (refl, rose, loud)
 stored_result Build file bound arguments run source outcome status (bytes, image, inr (kept, is)) = absurd (let other : outcome.status ≡ Done = ap status_of_outcome is in cc)
 stored_result Dump file bound arguments run source outcome status is = absurd is
+stored_result Verify file bound arguments run source outcome status is = absurd is
 stored_result Mean file bound arguments run source outcome status is = absurd is
 
 -- what is made of a typed program
@@ -417,6 +538,7 @@ stored_made Run file bound arguments program outcome status is = is
 stored_made Check file bound arguments program outcome status is = let other : outcome.status ≡ Done = ap status_of_outcome is in cc
 stored_made Build file bound arguments program outcome status is = is
 stored_made Dump file bound arguments program outcome status is = is
+stored_made Verify file bound arguments program outcome status is = is
 stored_made Mean file bound arguments program outcome status is =
     not_stored (end_of (meaning_of program (arguments_of (record { command = Mean; file = file; bound = bound; arguments = arguments })) bound).finish) (sym (ap status_of_outcome is) ∙ status)
 
@@ -451,6 +573,7 @@ ended_result Check file bound arguments run source outcome end status accepted i
 ended_result Build file bound arguments run source outcome end status accepted (bytes, image, inl (rose, loud, is)) = absurd (no_ending outcome WriteFault end status (ap status_of_outcome is) refl)
 ended_result Build file bound arguments run source outcome end status accepted (bytes, image, inr (kept, is)) = absurd (no_ending outcome Done end status (ap status_of_outcome is) refl)
 ended_result Dump file bound arguments run source outcome end status accepted is = absurd is
+ended_result Verify file bound arguments run source outcome end status accepted is = absurd is
 ended_result Mean file bound arguments run source outcome end status accepted is = absurd is
 
 meant_ending : (meant_end : Option Ending) (end : Ending) → meant_status meant_end ≡ status_of (Some end) → meant_end ≡ Some end
@@ -463,6 +586,7 @@ ended_made Run file bound arguments run program outcome end status types is = ab
 ended_made Check file bound arguments run program outcome end status types is = absurd (no_ending outcome Done end status (ap status_of_outcome is) refl)
 ended_made Build file bound arguments run program outcome end status types is = absurd is
 ended_made Dump file bound arguments run program outcome end status types is = absurd is
+ended_made Verify file bound arguments run program outcome end status types is = absurd is
 ended_made Mean file bound arguments run program outcome end status types is =
     let run_is = meaning_of program (arguments_of (record { command = Mean; file = file; bound = bound; arguments = arguments })) bound in
     (program, types, meant_ending (end_of run_is.finish) end (sym (ap status_of_outcome is) ∙ status), ap output_of_outcome is)
@@ -496,6 +620,7 @@ limited_result Check file bound arguments run source outcome status is = absurd 
 limited_result Build file bound arguments run source outcome status (bytes, image, inl (rose, loud, is)) = absurd (let other : outcome.status ≡ WriteFault = ap status_of_outcome is in cc)
 limited_result Build file bound arguments run source outcome status (bytes, image, inr (kept, is)) = absurd (let other : outcome.status ≡ Done = ap status_of_outcome is in cc)
 limited_result Dump file bound arguments run source outcome status is = absurd is
+limited_result Verify file bound arguments run source outcome status is = absurd is
 limited_result Mean file bound arguments run source outcome status is = absurd is
 
 not_cut : (end : Option Ending) → meant_status end ≡ StepLimit → ⊥
@@ -510,6 +635,7 @@ limited_made Run file bound arguments program outcome status is = is
 limited_made Check file bound arguments program outcome status is = let other : outcome.status ≡ Done = ap status_of_outcome is in cc
 limited_made Build file bound arguments program outcome status is = is
 limited_made Dump file bound arguments program outcome status is = is
+limited_made Verify file bound arguments program outcome status is = is
 limited_made Mean file bound arguments program outcome status is =
     not_cut (end_of (meaning_of program (arguments_of (record { command = Mean; file = file; bound = bound; arguments = arguments })) bound).finish) (sym (ap status_of_outcome is) ∙ status)
 
@@ -540,6 +666,7 @@ going_result Check file bound arguments run source outcome status is = is
 going_result Build file bound arguments run source outcome status (bytes, image, inl (rose, loud, is)) = let other : outcome.status ≡ WriteFault = ap status_of_outcome is in cc
 going_result Build file bound arguments run source outcome status (bytes, image, inr (kept, is)) = let other : outcome.status ≡ Done = ap status_of_outcome is in cc
 going_result Dump file bound arguments run source outcome status is = is
+going_result Verify file bound arguments run source outcome status is = is
 going_result Mean file bound arguments run source outcome status is = is
 
 meant_going : (end : Option Ending) → meant_status end ≡ Going → end ≡ None
@@ -560,6 +687,7 @@ going_made Run file bound arguments run program outcome status types is = absurd
 going_made Check file bound arguments run program outcome status types is = absurd (let other : outcome.status ≡ Done = ap status_of_outcome is in cc)
 going_made Build file bound arguments run program outcome status types is = absurd is
 going_made Dump file bound arguments run program outcome status types is = absurd is
+going_made Verify file bound arguments run program outcome status types is = absurd is
 going_made Mean file bound arguments run program outcome status types is =
     let run_is = meaning_of program (arguments_of (record { command = Mean; file = file; bound = bound; arguments = arguments })) bound in
     (refl, types, meant_going (end_of run_is.finish) (sym (ap status_of_outcome is) ∙ status), ap output_of_outcome is)
@@ -581,6 +709,7 @@ done_result Run file bound arguments run sinks source outcome status accepted is
 done_result Check file bound arguments run sinks source outcome status accepted is = absurd is
 done_result Build file bound arguments run sinks source outcome status accepted is = (source, accepted)
 done_result Dump file bound arguments run sinks source outcome status accepted is = absurd is
+done_result Verify file bound arguments run sinks source outcome status accepted is = absurd is
 done_result Mean file bound arguments run sinks source outcome status accepted is = absurd is
 
 not_done : (end : Option Ending) → meant_status end ≡ Done → ⊥
@@ -596,12 +725,25 @@ done_made Run file bound arguments run sinks program outcome status types is = a
 done_made Check file bound arguments run sinks program outcome status types is = (program, types)
 done_made Build file bound arguments run sinks program outcome status types is = absurd is
 done_made Dump file bound arguments run sinks program outcome status types is = absurd is
+done_made Verify file bound arguments run sinks program outcome status types is = absurd is
 done_made Mean file bound arguments run sinks program outcome status types is =
     absurd (not_done (end_of (meaning_of program (arguments_of (record { command = Mean; file = file; bound = bound; arguments = arguments })) bound).finish) (sym (ap status_of_outcome is) ∙ status))
 
 done_late : (line : CommandLine) (run : FilesRun) (sinks : SinksRun) (outcome : Outcome) → outcome.status ≡ Done → Late line run outcome → DoneFrom line.command run sinks line.file
 done_late line run sinks outcome status (of_source source accepted is) = done_result line.command line.file line.bound line.arguments run sinks source outcome status accepted is
 done_late line run sinks outcome status (of_program program types is) = done_made line.command line.file line.bound line.arguments run sinks program outcome status types is
+
+-- what was done of a module is its listing or the verifier's word
+done_shown : (command : Command) (file : List ℕ) (bound : ℕ) (arguments : List (List ℕ)) (run : FilesRun) (sinks : SinksRun) (m : Module) (outcome : Outcome) → outcome.status ≡ Done → Gains sinks.output sinks.output' outcome.output
+    → ModuleFrom run file m → IsShown (record { command = command; file = file; bound = bound; arguments = arguments }) m outcome → DoneFrom command run sinks file
+done_shown Run file bound arguments run sinks m outcome status gains held is = absurd is
+done_shown Check file bound arguments run sinks m outcome status gains held is = absurd is
+done_shown Build file bound arguments run sinks m outcome status gains held is = absurd is
+done_shown Dump file bound arguments run sinks m outcome status gains held is =
+    (is.0, (m, held, is.1), subst (λ (text : List ℕ). Gains sinks.output sinks.output' text) (ap output_of_outcome is.2) gains)
+done_shown Verify file bound arguments run sinks m outcome status gains held (inl broken) = absurd (let other : outcome.status ≡ Unverified broken.0 = ap status_of_outcome broken.2 in cc)
+done_shown Verify file bound arguments run sinks m outcome status gains held (inr kept) = (m, held, kept.0)
+done_shown Mean file bound arguments run sinks m outcome status gains held is = absurd is
 
 done_from : (line : CommandLine) (run : FilesRun) (sinks : SinksRun) (outcome : Outcome) → outcome.status ≡ Done → Gains sinks.output sinks.output' outcome.output → Due line run outcome → DoneFrom line.command run sinks line.file
 done_from line run sinks outcome status gains (compiled reads_it (inl fault)) = absurd (let at : stage_of outcome.status ≡ at_load = stage_of_load run run.before line.file source_limit outcome.status fault.0 in let end : stage_of outcome.status ≡ at_end = ap stage_of status in cc)
@@ -610,11 +752,10 @@ done_from line run sinks outcome status gains (compiled reads_it (inr loaded)) =
 done_from line run sinks outcome status gains (typed reads_it (inl fault)) = absurd (let at : stage_of outcome.status ≡ at_load = stage_of_load run run.before line.file source_limit outcome.status fault.0 in let end : stage_of outcome.status ≡ at_end = ap stage_of status in cc)
 done_from line run sinks outcome status gains (typed reads_it (inr loaded)) =
     done_late line run sinks outcome status (late_typed line run outcome loaded.0 (ap (λ (s : Status). is_late (stage_of s)) status) loaded.1 loaded.2 loaded.3)
-done_from line run sinks outcome status gains (listed dump (inl fault)) = absurd (let at : stage_of outcome.status ≡ at_load = stage_of_load run run.before line.file image_limit outcome.status fault.0 in let end : stage_of outcome.status ≡ at_end = ap stage_of status in cc)
-done_from line run sinks outcome status gains (listed dump (inr read)) = elim read.3 [
+done_from line run sinks outcome status gains (shown reads_it (inl fault)) = absurd (let at : stage_of outcome.status ≡ at_load = stage_of_load run run.before line.file image_limit outcome.status fault.0 in let end : stage_of outcome.status ≡ at_end = ap stage_of status in cc)
+done_from line run sinks outcome status gains (shown reads_it (inr read)) = elim read.3 [
   | inl none ↦ absurd (let at : stage_of outcome.status ≡ at_image = ap (λ (o : Outcome). stage_of o.status) none.2 in let end : stage_of outcome.status ≡ at_end = ap stage_of status in cc)
-  | inr found ↦ subst (λ (command : Command). DoneFrom command run sinks line.file) (sym dump)
-      (found.2.0, (read.0, found.0, read.1, read.2, found.1, found.2.1), subst (λ (text : List ℕ). Gains sinks.output sinks.output' text) (ap output_of_outcome found.2.2) gains)
+  | inr found ↦ done_shown line.command line.file line.bound line.arguments run sinks found.0 outcome status gains (read.0, read.1, read.2, found.1) found.2
 ]
 
 done_row : (words : List (List ℕ)) (run : FilesRun) (sinks : SinksRun) (answer : Status) → IsAnswer words run sinks answer → DoneRow words run sinks answer
@@ -627,6 +768,11 @@ not_image_row words run sinks answer is fault same =
     let told = told_of words run sinks answer (NotImage fault) same (λ other. cc) (λ other. cc) is in
     (told.cause.line, told.cause.words_are, at_its_image told.cause.line run told.outcome fault told.is told.cause.due)
 
+unverified_row : (words : List (List ℕ)) (run : FilesRun) (sinks : SinksRun) (answer : Status) → IsAnswer words run sinks answer → UnverifiedRow words run answer
+unverified_row words run sinks answer is fault same =
+    let told = told_of words run sinks answer (Unverified fault) same (λ other. cc) (λ other. cc) is in
+    (told.cause.line, told.cause.words_are, at_its_verifier told.cause.line run told.outcome fault told.is told.cause.due)
+
 pub answer_table : (words : List (List ℕ)) (run : FilesRun) (sinks : SinksRun) (answer : Status) → IsAnswer words run sinks answer → AnswerTable words run sinks answer
 answer_table words run sinks answer is = record {
   usage = usage_row words run sinks answer is;
@@ -636,6 +782,7 @@ answer_table words run sinks answer is = record {
   too_long = too_long_row words run sinks answer is;
   refused = refused_row words run sinks answer is;
   not_image = not_image_row words run sinks answer is;
+  unverified = unverified_row words run sinks answer is;
   ended = ended_row words run sinks answer is;
   step_limit = step_limit_row words run sinks answer is;
   going = going_row words run sinks answer is;

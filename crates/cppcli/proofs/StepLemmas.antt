@@ -13,6 +13,9 @@ use Rattle.cc_image.specs.declared.fault.ImageFault.{ImageFault}
 use Rattle.cc_image.specs.declared.fault.ImageFault.TheVariants as image
 use Rattle.cc_listing.specs.Listing.{ListsModule}
 use Rattle.cc_image.specs.Images.{IsImage}
+use Rattle.cc_verify.specs.Verified.{FirstFault, IsFirstFault as IsFirstRule, IsVerified}
+use Rattle.cc_verify.specs.declared.fault.VerifyFault.{VerifyFault}
+use Rattle.cc_verify.specs.declared.fault.VerifyFault.TheVariants as verify
 use Rattle.cc_core.specs.StraightMeaning.{run_of}
 use Rattle.cc_straight.specs.declared.runner.Executed.{Executed}
 use Rattle.cc_straight.specs.Executing.{DoesWithin, run_length}
@@ -23,8 +26,8 @@ use Rattle.cc_base.specs.declared.running.Ending.{Ending}
 use Rattle.cc_front.specs.Reading.{Types}
 use Rattle.cc_mean.specs.Ends.{end_of}
 use Rattle.cc_straight.specs.Straight.{RunsAs}
-use Rattle.cc_words.specs.declared.command.Command.TheVariants.{Run, Check, Build, Dump, Mean}
-use Rattle.cppcli.specs.Answers.{FilesRun, AfterStore, ForSource, IsExecuted, IsModuleOf, IsNoImage, IsOutcomeOf, image_name, longest_run, meaning_of, meant, meant_status, program_limits, source_limit, status_of, stopped, units_of, done, printed}
+use Rattle.cc_words.specs.declared.command.Command.TheVariants.{Run, Check, Build, Dump, Verify, Mean}
+use Rattle.cppcli.specs.Answers.{FilesRun, AfterStore, AfterVerifier, ForSource, IsExecuted, IsModuleOf, IsNoImage, IsOutcomeOf, image_name, longest_run, meaning_of, meant, meant_status, program_limits, source_limit, status_of, stopped, units_of, done, printed}
 use Rattle.cppcli.specs.Notes.{note_of}
 use Rattle.cc_emit.proofs.Sizes.{image_within}
 use Rattle.cppcli.proofs.CodeLemmas.{code_within}
@@ -33,7 +36,7 @@ use Rattle.cppcli.specs.declared.outcome.Outcome.{Outcome}
 use Rattle.cppcli.specs.declared.outcome.Stop.{Stop}
 use Rattle.cppcli.specs.declared.outcome.Stop.TheVariants.{OutOfMemory, With}
 use Rattle.cppcli.specs.declared.status.Status.{Status}
-use Rattle.cppcli.specs.declared.status.Status.TheVariants.{NotImage, WriteFault, StepLimit}
+use Rattle.cppcli.specs.declared.status.Status.TheVariants.{NotImage, Unverified, WriteFault, StepLimit}
 
 -- a fact of the outcome gives another, however the steps end
 end_of_steps : (result : Result Outcome Stop) (P Q : Outcome → Type 0) → ((outcome : Outcome) → P outcome → Q outcome) → IsEnd result P → IsEnd result Q
@@ -117,6 +120,28 @@ image_stopped bytes file fault (With outcome) first none stop = (fault, record {
 pub dump_outcome : (run : FilesRun) (file : List ℕ) (bound : ℕ) (arguments : List (List ℕ)) (bytes : List ℕ) (m : Module) (text : List ℕ)
     → Holds run.before file bytes → length bytes ≤ image_limit → IsModuleOf bytes m → ListsModule m text → IsOutcomeOf (record { command = Dump; file = file; bound = bound; arguments = arguments }) run (printed text)
 dump_outcome run file bound arguments bytes m text held short is lists = inr (bytes, held, short, inr (m, is, (text, lists, refl)))
+
+-- what a broken rule ends with
+pub rule_stopped : (m : Module) (file : List ℕ) (fault : VerifyFault) (stop : Stop) → IsFirstRule m fault
+    → IsStop stop (λ outcome. (fault ≢ verify.Memory) × (outcome ≡ stopped (Unverified fault) file []))
+    → IsStop stop (λ outcome. (f : VerifyFault) × FirstFault m (Some f) × (outcome ≡ stopped (Unverified f) file []))
+rule_stopped m file fault OutOfMemory first stop = stop
+rule_stopped m file verify.Memory (With outcome) first stop = absurd (stop.0 refl)
+rule_stopped m file (verify.BadClass rule row) (With outcome) first stop = (verify.BadClass rule row, first, stop.1)
+rule_stopped m file (verify.BadCode row at rule) (With outcome) first stop = (verify.BadCode row at rule, first, stop.1)
+
+-- a file that was loaded, read as an image and given to the verifier
+pub verify_outcome : (run : FilesRun) (file : List ℕ) (bound : ℕ) (arguments : List (List ℕ)) (bytes : List ℕ) (m : Module) (outcome : Outcome)
+    → Holds run.before file bytes → length bytes ≤ image_limit → IsModuleOf bytes m → AfterVerifier m file outcome (outcome ≡ done) → IsOutcomeOf (record { command = Verify; file = file; bound = bound; arguments = arguments }) run outcome
+verify_outcome run file bound arguments bytes m outcome held short is after = inr (bytes, held, short, inr (m, is, after))
+
+-- a module that was refused, whatever the memory
+pub verify_stopped : (run : FilesRun) (file : List ℕ) (bound : ℕ) (arguments : List (List ℕ)) (bytes : List ℕ) (m : Module) (stop : Stop)
+    → Holds run.before file bytes → length bytes ≤ image_limit → IsModuleOf bytes m
+    → IsStop stop (λ outcome. (f : VerifyFault) × FirstFault m (Some f) × (outcome ≡ stopped (Unverified f) file []))
+    → IsStop stop (IsOutcomeOf (record { command = Verify; file = file; bound = bound; arguments = arguments }) run)
+verify_stopped run file bound arguments bytes m OutOfMemory held short is stopped = stopped
+verify_stopped run file bound arguments bytes m (With outcome) held short is stopped = verify_outcome run file bound arguments bytes m outcome held short is (inl stopped)
 
 -- what a store did, seen from before the load
 module _ (run : FilesRun) (middle : FilesState) (quiet : Type 0) (on : GoesOn run.before middle) (name image : List ℕ) where

@@ -29,12 +29,14 @@ use Rattle.cc_emit.specs.Program.{image_limit, module_of}
 use Rattle.cc_image.specs.Images.{IsImage}
 use Rattle.cc_image.specs.Reading.{IsFirstFault}
 use Rattle.cc_image.specs.declared.fault.ImageFault.{ImageFault}
+use Rattle.cc_verify.specs.Verified.{FirstFault, IsVerified}
+use Rattle.cc_verify.specs.declared.fault.VerifyFault.{VerifyFault}
 use Rattle.cc_words.specs.Words.{CommandLine, command_line, first_command}
 use Rattle.cc_words.specs.declared.command.Command.{Command}
-use Rattle.cc_words.specs.declared.command.Command.TheVariants.{Run, Check, Build, Dump, Mean}
+use Rattle.cc_words.specs.declared.command.Command.TheVariants.{Run, Check, Build, Dump, Verify, Mean}
 use Rattle.cppcli.specs.declared.outcome.Outcome.{Outcome}
 use Rattle.cppcli.specs.declared.status.Status.{Status}
-use Rattle.cppcli.specs.declared.status.Status.TheVariants.{Done, Ended, Usage, Absent, ReadFault, WriteFault, TooLong, Refused, NotImage, Aborted, HeapLimit, DepthLimit, StepLimit, Going, Memory}
+use Rattle.cppcli.specs.declared.status.Status.TheVariants.{Done, Ended, Usage, Absent, ReadFault, WriteFault, TooLong, Refused, NotImage, Unverified, Aborted, HeapLimit, DepthLimit, StepLimit, Going, Memory}
 
 -- the longest source, in bytes
 abbrev pub source_limit : ℕ
@@ -187,6 +189,12 @@ AfterImage file bytes outcome next =
 abbrev pub IsListed : Module → Outcome → Type 0
 IsListed m outcome = (text : List ℕ) × ListsModule m text × (outcome ≡ printed text)
 
+-- the module of the file is verified
+abbrev pub AfterVerifier : Module → List ℕ → Outcome → Type 0 → Type 0
+AfterVerifier m file outcome next =
+    ((fault : VerifyFault) × FirstFault m (Some fault) × (outcome ≡ stopped (Unverified fault) file []))
+    ⊎ (IsVerified m × next)
+
 -- The commands, each as its steps.
 abbrev pub IsOutcomeOf : CommandLine → FilesRun → Outcome → Type 0
 IsOutcomeOf line run outcome = by line.command
@@ -208,6 +216,10 @@ IsOutcomeOf line run outcome = by line.command
         AfterLoad run run.before line.file image_limit outcome (λ bytes.
         AfterImage line.file bytes outcome (λ m.
         IsListed m outcome))
+    by Verify =
+        AfterLoad run run.before line.file image_limit outcome (λ bytes.
+        AfterImage line.file bytes outcome (λ m.
+        AfterVerifier m line.file outcome (outcome ≡ done)))
     by Mean =
         AfterLoad run run.before line.file source_limit outcome (λ bytes.
         AfterTyping line.file bytes outcome (λ program.
@@ -231,6 +243,7 @@ KeepsFiles (Some line) run status = by line.command
     by Run = GivesSame run.before run.after
     by Check = GivesSame run.before run.after
     by Dump = GivesSame run.before run.after
+    by Verify = GivesSame run.before run.after
     by Mean = GivesSame run.before run.after
     by Build = GivesSameBut (image_name line.file) run.before run.after × (status ≢ Done → status ≢ WriteFault → GivesSame run.before run.after)
 

@@ -13,13 +13,15 @@ use Rattle.cc_straight.specs.Reading.{execution, Reads, Refuses}
 use Rattle.cc_core.specs.declared.tree.ProgramParts.{ProgramParts}
 use Rattle.cc_front.specs.Reading as front
 use Rattle.cc_front.specs.Reading.{Types}
+use Rattle.cc_verify.specs.Verified.{FirstFault, IsVerified}
+use Rattle.cc_verify.specs.declared.fault.VerifyFault.{VerifyFault}
 use Rattle.cc_words.specs.Words.{CommandLine, command_line}
 use Rattle.cc_words.specs.declared.command.Command.{Command}
-use Rattle.cc_words.specs.declared.command.Command.TheVariants.{Run, Check, Build, Dump, Mean}
+use Rattle.cc_words.specs.declared.command.Command.TheVariants.{Run, Check, Build, Dump, Verify, Mean}
 use Rattle.cppcli.specs.Answers.{FilesRun, SinksRun, IsBuilt, IsDelivered, IsExecuted, IsListed, IsNoImage, arguments_of, image_name, meaning_of, meant, source_limit, stopped, done}
 use Rattle.cppcli.specs.declared.outcome.Outcome.{Outcome}
 use Rattle.cppcli.specs.declared.status.Status.{Status}
-use Rattle.cppcli.specs.declared.status.Status.TheVariants.{Absent, TooLong, Refused, NotImage, Memory}
+use Rattle.cppcli.specs.declared.status.Status.TheVariants.{Absent, TooLong, Refused, NotImage, Unverified, Memory}
 
 -- no load of this name has failed in the call: its count has not risen, or no call on the files could fail
 abbrev pub LoadsWell : FilesRun → List ℕ → Type 0
@@ -34,6 +36,7 @@ IsResult line run source outcome = by line.command
     by Check = ⊥
     by Build = IsBuilt run (image_name line.file) source outcome
     by Dump = ⊥
+    by Verify = ⊥
     by Mean = ⊥
 
 -- what a command makes of a typed program: nothing, or its meaning
@@ -45,7 +48,25 @@ IsMade line program outcome = by line.command
     by Check = outcome ≡ done
     by Build = ⊥
     by Dump = ⊥
+    by Verify = ⊥
     by Mean = outcome ≡ meant (meaning_of program (arguments_of line) line.bound)
+
+-- what the verifier decides: the module is verified and this comes next, or the first rule that it breaks is told; a module is never both
+pub record IsJudged (m : Module) (file : List ℕ) (outcome : Outcome) (next : Type 0) : Type 0 where
+  pub verified : IsVerified m → next
+  pub broken : (fault : VerifyFault) → FirstFault m (Some fault) → outcome ≡ stopped (Unverified fault) file []
+
+-- what a command makes of a module that it reads: its listing, or the word of the verifier
+abbrev pub ModuleComesTo : CommandLine → Module → Outcome → Type 0
+ModuleComesTo line m outcome = by line.command
+  where
+    by : Command → Type 0
+    by Run = ⊥
+    by Check = ⊥
+    by Build = ⊥
+    by Dump = IsListed m outcome
+    by Verify = IsJudged m line.file outcome (outcome ≡ done)
+    by Mean = ⊥
 
 -- what the bytes of the command's file come to, where it compiles a source
 pub record BytesComeTo (line : CommandLine) (run : FilesRun) (bytes : List ℕ) (outcome : Outcome) : Type 0 where
@@ -64,7 +85,7 @@ pub record TypedComesTo (line : CommandLine) (bytes : List ℕ) (outcome : Outco
 -- what the bytes of the command's file come to, where it reads an image
 pub record ImageComesTo (line : CommandLine) (bytes : List ℕ) (outcome : Outcome) : Type 0 where
   pub too_long : image_limit < length bytes → outcome ≡ stopped TooLong line.file []
-  pub listed : length bytes ≤ image_limit → (m : Module) → IsStorable m → IsInRange m → IsImage m bytes → IsListed m outcome
+  pub read : length bytes ≤ image_limit → (m : Module) → IsStorable m → IsInRange m → IsImage m bytes → ModuleComesTo line m outcome
   pub refused : length bytes ≤ image_limit → ((m : Module) → IsStorable m → IsImage m bytes → ⊥) →
       (fault : ImageFault) × IsNoImage bytes fault × (outcome ≡ stopped (NotImage fault) line.file bytes)
 
@@ -73,6 +94,7 @@ BytesOf Run line run bytes outcome = BytesComeTo line run bytes outcome
 BytesOf Check line run bytes outcome = TypedComesTo line bytes outcome
 BytesOf Build line run bytes outcome = BytesComeTo line run bytes outcome
 BytesOf Dump line run bytes outcome = ImageComesTo line bytes outcome
+BytesOf Verify line run bytes outcome = ImageComesTo line bytes outcome
 BytesOf Mean line run bytes outcome = TypedComesTo line bytes outcome
 
 abbrev pub ComesTo : CommandLine → FilesRun → Option (List ℕ) → Outcome → Type 0

@@ -1,5 +1,5 @@
 -- What each answer tells a caller, in a row for each.
-use Rattle.std.specs.Prelude.{◌≡◌, ◌⊎◌, ◌≤◌, ◌<◌, ◌+◌, ℕ, List, length, Some, None, is_some, true}
+use Rattle.std.specs.Prelude.{◌≡◌, ◌⊎◌, ◌≤◌, ◌<◌, ◌+◌, ℕ, Bool, List, length, Some, None, is_some, true, false}
 use Rattle.cc_base.specs.Outside.{Rose, Holds, HoldsMore, Lacks, Gains}
 use Rattle.cc_base.specs.declared.kind.Kind.{Kind}
 use Rattle.cc_base.specs.declared.text.Span.{Span}
@@ -16,12 +16,14 @@ use Rattle.cc_core.specs.declared.tree.ProgramParts.{ProgramParts}
 use Rattle.cc_front.specs.Reading as front
 use Rattle.cc_front.specs.Reading.{Types}
 use Rattle.cc_mean.specs.Ends.{end_of}
+use Rattle.cc_verify.specs.Verified.{FirstFault, IsVerified}
+use Rattle.cc_verify.specs.declared.fault.VerifyFault.{VerifyFault}
 use Rattle.cc_words.specs.Words.{CommandLine, command_line, first_command}
 use Rattle.cc_words.specs.declared.command.Command.{Command}
-use Rattle.cc_words.specs.declared.command.Command.TheVariants.{Run, Check, Build, Dump, Mean}
+use Rattle.cc_words.specs.declared.command.Command.TheVariants.{Run, Check, Build, Dump, Verify, Mean}
 use Rattle.cppcli.specs.Answers.{FilesRun, SinksRun, IsModuleOf, IsNoImage, arguments_of, image_name, longest_run, meaning_of, source_limit, program_limits, status_of}
 use Rattle.cppcli.specs.declared.status.Status.{Status}
-use Rattle.cppcli.specs.declared.status.Status.TheVariants.{Done, Usage, Absent, ReadFault, WriteFault, TooLong, Refused, NotImage, StepLimit, Going, Memory}
+use Rattle.cppcli.specs.declared.status.Status.TheVariants.{Done, Usage, Absent, ReadFault, WriteFault, TooLong, Refused, NotImage, Unverified, StepLimit, Going, Memory}
 
 -- the words are a command of which P holds
 abbrev pub ForCommand : List (List ℕ) → (CommandLine → Type 0) → Type 0
@@ -54,6 +56,7 @@ limit_of Run = source_limit
 limit_of Check = source_limit
 limit_of Build = source_limit
 limit_of Dump = image_limit
+limit_of Verify = image_limit
 limit_of Mean = source_limit
 
 abbrev pub TooLongRow : List (List ℕ) → FilesRun → Status → Type 0
@@ -66,6 +69,7 @@ RefusesFor Run bytes kind span = Refuses execution bytes kind span
 RefusesFor Check bytes kind span = front.Refuses bytes kind span
 RefusesFor Build bytes kind span = Refuses execution bytes kind span
 RefusesFor Dump bytes kind span = ⊥
+RefusesFor Verify bytes kind span = ⊥
 RefusesFor Mean bytes kind span = front.Refuses bytes kind span
 
 -- these files hold bytes under the command's name that the rules refuse so
@@ -75,12 +79,30 @@ RefusedFrom run line kind span = (bytes : List ℕ) × Holds run.before line.fil
 abbrev pub RefusedRow : List (List ℕ) → FilesRun → Status → Type 0
 RefusedRow words run answer = (kind : Kind) (span : Span) → answer ≡ Refused kind span → ForCommand words (λ line. RefusedFrom run line kind span)
 
+-- the commands that read an image
+abbrev pub reads_image : Command → Bool
+reads_image Run = false
+reads_image Check = false
+reads_image Build = false
+reads_image Dump = true
+reads_image Verify = true
+reads_image Mean = false
+
 -- these files hold bytes under the name that are no image, as this check shows first
 abbrev pub NoImageFrom : FilesRun → List ℕ → ImageFault → Type 0
 NoImageFrom run file fault = (bytes : List ℕ) × Holds run.before file bytes × (length bytes ≤ image_limit) × IsNoImage bytes fault
 
 abbrev pub NotImageRow : List (List ℕ) → FilesRun → Status → Type 0
-NotImageRow words run answer = (fault : ImageFault) → answer ≡ NotImage fault → ForCommand words (λ line. (line.command ≡ Dump) × NoImageFrom run line.file fault)
+NotImageRow words run answer = (fault : ImageFault) → answer ≡ NotImage fault → ForCommand words (λ line. (reads_image line.command ≡ true) × NoImageFrom run line.file fault)
+
+-- these files hold bytes under the name that are an image of a module
+abbrev pub ModuleFrom : FilesRun → List ℕ → Module → Type 0
+ModuleFrom run file m = (bytes : List ℕ) × Holds run.before file bytes × (length bytes ≤ image_limit) × IsModuleOf bytes m
+
+-- it is that of a module that breaks this rule first
+abbrev pub UnverifiedRow : List (List ℕ) → FilesRun → Status → Type 0
+UnverifiedRow words run answer = (fault : VerifyFault) → answer ≡ Unverified fault → ForCommand words (λ line.
+    (line.command ≡ Verify) × (m : Module) × ModuleFrom run line.file m × FirstFault m (Some fault))
 
 -- these files hold bytes under the name that spell a source
 abbrev pub AcceptedFrom : FilesRun → List ℕ → Source → Type 0
@@ -102,6 +124,7 @@ EndedFrom Run line run ending printed = (source : Source) × AcceptedFrom run li
 EndedFrom Check line run ending printed = ⊥
 EndedFrom Build line run ending printed = ⊥
 EndedFrom Dump line run ending printed = ⊥
+EndedFrom Verify line run ending printed = ⊥
 EndedFrom Mean line run ending printed =
     (program : ProgramParts) × TypedFrom run line.file program
     × (end_of (meaning_of program (arguments_of line) line.bound).finish ≡ Some ending) × (printed ≡ (meaning_of program (arguments_of line) line.bound).output)
@@ -122,16 +145,17 @@ abbrev pub StepLimitRow : List (List ℕ) → FilesRun → Status → Type 0
 StepLimitRow words run answer = answer ≡ StepLimit → ForCommand words (λ line.
     (line.command ≡ Run) × (source : Source) × AcceptedFrom run line.file source × (line.bound < run_length source (arguments_of line) program_limits) × (line.bound < longest_run))
 
--- these files hold bytes under the name that are an image of a module, whose listing the bytes are
+-- it is that of a module, whose listing the bytes are
 abbrev pub ListedFrom : FilesRun → List ℕ → List ℕ → Type 0
-ListedFrom run file text = (bytes : List ℕ) × (m : Module) × Holds run.before file bytes × (length bytes ≤ image_limit) × IsModuleOf bytes m × ListsModule m text
+ListedFrom run file text = (m : Module) × ModuleFrom run file m × ListsModule m text
 
--- the file of a command that was done: a source, or an image whose listing was written; an execution ends otherwise
+-- the file of a command that was done: a source, an image whose listing was written, or that of a verified module; an execution ends otherwise
 abbrev pub DoneFrom : Command → FilesRun → SinksRun → List ℕ → Type 0
 DoneFrom Run run sinks file = ⊥
 DoneFrom Check run sinks file = (program : ProgramParts) × TypedFrom run file program
 DoneFrom Build run sinks file = (source : Source) × AcceptedFrom run file source
 DoneFrom Dump run sinks file = (text : List ℕ) × ListedFrom run file text × Gains sinks.output sinks.output' text
+DoneFrom Verify run sinks file = (m : Module) × ModuleFrom run file m × IsVerified m
 DoneFrom Mean run sinks file = ⊥
 
 abbrev pub DoneRow : List (List ℕ) → FilesRun → SinksRun → Status → Type 0
@@ -150,6 +174,7 @@ pub record AnswerTable (words : List (List ℕ)) (run : FilesRun) (sinks : Sinks
   pub too_long : TooLongRow words run answer
   pub refused : RefusedRow words run answer
   pub not_image : NotImageRow words run answer
+  pub unverified : UnverifiedRow words run answer
   pub ended : EndedRow words run sinks answer
   pub step_limit : StepLimitRow words run answer
   pub going : GoingRow words run sinks answer

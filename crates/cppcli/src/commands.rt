@@ -10,7 +10,7 @@ use crate::arguments::texts_of;
 use crate::outcome::{Outcome, Stop};
 use crate::steps::{
     compile, execute, execute_meaning, image_name, image_of, list_module, load, read_module, store,
-    type_source,
+    type_source, verify_module,
 };
 use cc_base::{Files, List};
 use cc_words::{Command, Request};
@@ -92,6 +92,16 @@ fn dump<F: Files>(alloc: Global, file: &str, files: &mut F) -> Result<Outcome, S
     Ok(printed(alloc, text))
 }
 
+fn verify<F: Files>(alloc: Global, file: &str, files: &mut F) -> Result<Outcome, Stop>
+    ensures outcome { (bound : ℕ) (arguments : List (List ℕ)) → IsEnd result (IsOutcomeOf (record { command = Command.Verify; file = file.now; bound = bound; arguments = arguments }) (record { before = F.state files.old; after = F.state files.new; quiet = F.quiet files.old })) }
+    ensures same { GivesSame (F.state files.old) (F.state files.new) }
+{
+    let bytes = load(alloc, files, file, IMAGE_LIMIT)?;
+    let module = read_module(alloc, file, &bytes)?;
+    verify_module(alloc, file, module)?;
+    Ok(done(alloc))
+}
+
 fn mean<F: Files>(
     alloc: Global,
     file: &str,
@@ -118,6 +128,7 @@ fn end_of<F: Files>(alloc: Global, request: Request<'_>, files: &mut F) -> Resul
         Command::Check => check(alloc, request.file, files),
         Command::Build => build(alloc, request.file, files),
         Command::Dump => dump(alloc, request.file, files),
+        Command::Verify => verify(alloc, request.file, files),
         Command::Mean => mean(alloc, request.file, request.bound, request.arguments, files),
     }
 }

@@ -1,10 +1,11 @@
 // The line on notes for a status.
 ghost use Rattle.std.specs.Prelude.{◌≡◌, ◌<◌, ◌≤◌, ◌^◌, length, IfOk, string_bytes};
-ghost use Rattle.cppcli.specs.Notes.{note_of, image_line, image_number, refusal_line, unhandled_line, place_of, utf8_of};
+ghost use Rattle.cppcli.specs.Notes.{note_of, class_rule_line, code_rule_line, image_line, image_number, refusal_line, rule_line, unhandled_line, place_of, utf8_of};
 
 use crate::Status;
 use cc_base::{Kind, List, Span};
 use cc_image::ImageFault;
+use cc_verify::VerifyFault;
 use std::alloc::{AllocError, Global};
 
 /// The line for words that are no command.
@@ -96,6 +97,35 @@ fn format_bad_image(alloc: Global, file: &str, number: u32) -> Result<String, Al
     format!(in alloc; "{file}: bad image {number}\n")
 }
 
+fn format_class_rule(alloc: Global, file: &str, rule: u8, row: u32) -> Result<String, AllocError>
+    ensures { IfOk result (λ line. string_bytes line ≡ class_rule_line file.now rule row) }
+{
+    format!(in alloc; "{file}: class rule {rule} at row {row}\n")
+}
+
+fn format_code_rule(
+    alloc: Global,
+    file: &str,
+    rule: u8,
+    row: u32,
+    at: u32,
+) -> Result<String, AllocError>
+    ensures { IfOk result (λ line. string_bytes line ≡ code_rule_line file.now rule row at) }
+{
+    format!(in alloc; "{file}: code rule {rule} at {row}:{at}\n")
+}
+
+// The line for the rule that a module breaks. Want of memory has none.
+fn format_rule(alloc: Global, file: &str, fault: VerifyFault) -> Result<String, AllocError>
+    ensures { IfOk result (λ line. string_bytes line ≡ rule_line file.now fault) }
+{
+    match fault {
+        VerifyFault::BadClass(rule, row) => format_class_rule(alloc, file, rule, row),
+        VerifyFault::BadCode(row, at, rule) => format_code_rule(alloc, file, rule, row, at),
+        VerifyFault::Memory => Ok(String::new(alloc)),
+    }
+}
+
 fn format_note(
     alloc: Global,
     status: &Status,
@@ -113,6 +143,7 @@ fn format_note(
         Status::Refused(kind, span) => refusal(alloc, *kind, *span, file, bytes),
         Status::Aborted(class, message) => unhandled(alloc, class.as_slice(), message.as_slice()),
         Status::NotImage(fault) => format_bad_image(alloc, file, image_number(*fault)),
+        Status::Unverified(fault) => format_rule(alloc, file, *fault),
         Status::HeapLimit => String::from_str(alloc, "limit: heap\n"),
         Status::DepthLimit => String::from_str(alloc, "limit: depth\n"),
         Status::StepLimit => String::from_str(alloc, "limit: steps\n"),

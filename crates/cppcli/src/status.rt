@@ -1,6 +1,7 @@
 // How a call of the program ends.
 use cc_base::{Kind, Span, Text};
 use cc_image::ImageFault;
+use cc_verify::VerifyFault;
 
 /// How a call of the program ends.
 #[derive(Debug, Drop)]
@@ -23,6 +24,8 @@ pub enum Status {
     Refused(Kind, Span),
     /// The bytes of a file are no image, for this reason.
     NotImage(ImageFault),
+    /// The module of a file is not verified: the first rule that it breaks, and where.
+    Unverified(VerifyFault),
     /// The executed program threw an exception that nothing caught: its type and its message.
     Aborted(Text, Text),
     /// The executed program would have passed the limit of cells.
@@ -55,6 +58,7 @@ impl Status {
             Status::TooLong => 244,
             Status::Refused(_, _) => 245,
             Status::NotImage(_) => 246,
+            Status::Unverified(_) => 247,
             Status::Aborted(_, _) => 248,
             Status::HeapLimit => 249,
             Status::DepthLimit => 250,

@@ -13,6 +13,8 @@ ghost use Rattle.cc_image.specs.Images.{IsImage};
 ghost use Rattle.cc_image.specs.declared.fault.ImageFault.{ImageFault};
 ghost use Rattle.cc_module.specs.Storable.{IsStorable};
 ghost use Rattle.cc_listing.specs.Listing.{ListsModule};
+ghost use Rattle.cc_verify.specs.Verified.{FirstFault, IsVerified};
+ghost use Rattle.cc_verify.specs.declared.fault.VerifyFault.{VerifyFault};
 ghost use Rattle.cppcli.specs.Answers.{FilesRun, IsLoadFault, IsExecuted, stopped, status_of, meant_status, meaning_of, meant, image_name, ForSource, IsModuleOf, IsNoImage};
 ghost use Rattle.cppcli.specs.Stops.{IsStop, IsEnd};
 
@@ -29,6 +31,7 @@ use cc_machine::Checked;
 use cc_mean::mean;
 use cc_module::Module;
 use cc_straight::CompileFault;
+use cc_verify::{Verified, VerifyFault, verify};
 use std::alloc::{AllocError, Global};
 
 /// What an executed program may use.
@@ -208,6 +211,30 @@ pub fn read_module(alloc: Global, file: &str, bytes: &[u8]) -> Result<Module, St
     match read_image(alloc, bytes) {
         Ok(module) => Ok(module),
         Err(fault) => Err(image_stop(alloc, fault, file, bytes)),
+    }
+}
+
+// What a broken rule ends with.
+fn rule_stop(alloc: Global, fault: VerifyFault, file: &str) -> Stop
+    ensures { IsStop result (λ outcome. (fault ≢ VerifyFault.Memory) × (outcome ≡ stopped (Status.Unverified fault) file.now [])) }
+{
+    match fault {
+        VerifyFault::Memory => Stop::OutOfMemory,
+        VerifyFault::BadClass(_, _) | VerifyFault::BadCode(_, _, _) => {
+            stop(alloc, Status::Unverified(fault), file, &[])
+        }
+    }
+}
+
+/// Verifies the module of a file.
+pub fn verify_module(alloc: Global, file: &str, module: Module) -> Result<Verified, Stop>
+    ensures { MatchResult result
+        (λ verified. (verified ≡ «module») × IsVerified «module»)
+        (λ stop. IsStop stop (λ outcome. (fault : VerifyFault) × FirstFault «module» (Some fault) × (outcome ≡ stopped (Status.Unverified fault) file.now []))) }
+{
+    match verify(alloc, module) {
+        Ok(verified) => Ok(verified),
+        Err(refusal) => Err(rule_stop(alloc, refusal.fault, file)),
     }
 }
 

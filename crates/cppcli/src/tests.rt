@@ -65,7 +65,7 @@ fn blanks(alloc: Global, length: usize) -> Result<Vec<u8>, AllocError> {
 }
 
 // The words, a source, and the status, output and note that they come to.
-const SOURCES: [(&str, &str, u8, &str, &str); 12] = [
+const SOURCES: [(&str, &str, u8, &str, &str); 13] = [
     ("run x.cpp", OVERFLOW, 0, "-2147483648\n", ""),
     (
         "run --steps=5 x.cpp -- a",
@@ -76,6 +76,7 @@ const SOURCES: [(&str, &str, u8, &str, &str); 12] = [
     ),
     ("check x.cpp", OVERFLOW, 0, "", ""),
     ("dump x.cpp", "MZ", 246, "", "x.cpp: bad image 90\n"),
+    ("verify x.cpp", "MZ", 246, "", "x.cpp: bad image 90\n"),
     ("mean x.cpp --turns 0", OVERFLOW, 0, "-2147483648\n", ""),
     ("mean --turns=100 x.cpp -- a", RECURSION, 0, "", ""),
     ("mean x.cpp --turns 100", DEEP, 250, "", "limit: depth\n"),
