@@ -189,3 +189,36 @@ fn a_built_image_is_stored(rt: HostRuntime) -> Result<(), Fail> {
     );
     Ok(())
 }
+
+// What `verify` says of the image of a source, a byte of which is changed.
+fn verdict(alloc: Global, at: usize, byte: u8) -> Result<Written, AllocError> {
+    let mut files = one_file(alloc, OVERFLOW.as_bytes(), 0)?;
+    let _ = call(alloc, "build x.cpp", &mut files, 0)?;
+    let mut image = Vec::new(alloc);
+    let _ = files.load("x.cpp.exe", 2000, &mut image);
+    if let Some(own) = image.get_mut(at) {
+        *own = byte;
+    }
+    let _ = files.store("y.exe", &image);
+    call(alloc, "verify y.exe", &mut files, 0)
+}
+
+// The token of the entry stands at 532 and names row 2, the method that takes the arguments; the code of `main` begins at 596 with
+// `ldc.i4`, `ldc.i4.1` and, at 602, `add`.
+#[test]
+fn the_rule_that_an_image_breaks_is_told(rt: HostRuntime) -> Result<(), Fail> {
+    let alloc = rt.alloc();
+    let rows = [
+        (532, 2, 0, ""),
+        (532, 1, 247, "y.exe: class rule 11 at row 1\n"),
+        (532, 3, 247, "y.exe: class rule 11 at row 3\n"),
+        (602, 0x00, 247, "y.exe: code rule 3 at 1:13\n"),
+        (602, 0xFF, 247, "y.exe: code rule 1 at 1:6\n"),
+    ];
+    for (at, byte, exit, note) in rows {
+        let written = verdict(alloc, at, byte)?;
+        assert_eq!(rt; written.status.exit(), exit, "at {at}");
+        assert_eq!(rt; written.notes.bytes(), note.as_bytes(), "at {at}");
+    }
+    Ok(())
+}
