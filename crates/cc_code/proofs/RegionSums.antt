@@ -136,7 +136,7 @@ module _ (tokens : Tokens) (parameters : ℕ) where
     region_is (region.Guard body cleanup) at around = refl
     region_is (region.OnThrow body cleanup) at around = refl
     region_is (region.Finally body last) at around = refl
-    region_is (region.Catch body clauses) at around = refl
+    region_is (region.Catch body _) at around = refl
     region_is region.Rethrow at around = refl
 
     pub regions_are : (regions : Regions) (at : ℕ) (around : List Target) → bytes (regions_code tokens parameters regions at around) ≡ regions_size regions

@@ -54,6 +54,9 @@ pub size_switch : (x : RegionStatement) (local : LocalId) (a : Expression) (l : 
     → region_size (region_of x) ≡ term_size (term_of a) + tests_size (type_of (term_of a)) (sections_of l) + sections_size (sections_of l) + 10
 size_switch x local a l p = ap region_size (switch_of x local a l p)
 
+pub switch_size : (x : RegionStatement) (local : LocalId) (a : Expression) (l : List RegionSection) → x ≡ s.Switch local a l → region_size (region_of x) ≡ region_size (region.Switch local (term_of a) (sections_of l))
+switch_size x local a l p = ap region_size (switch_of x local a l p)
+
 -- ---- heights
 
 pub height_call : (x : Expression) (u : CoreType) (m : MethodId) (d : Dispatch) (l : List Expression) → x ≡ e.Call u m d l → term_height (term_of x) ≡ max (terms_height (terms_of l)) (values_of (bare u))
