@@ -1,0 +1,4 @@
+pub mod Flows
+pub mod Kinds
+pub mod Laws
+pub mod Rows
